@@ -1,0 +1,5 @@
+pub mod Choose
+pub mod Fields
+pub mod Whole
+pub mod Single
+pub mod Play
