@@ -1,13 +1,13 @@
 -- Laws of bytes at the front of a buffer, and of a run of such writes. `front xs d` is d with xs in the place of its first bytes.
-use mathlib.Core.Path.{_≡_, refl, sym, ap, _∙_}
+use mathlib.Core.Path.{_≡_, refl, sym, ap, _∙_, subst}
 use Prim.Native.Nat.{ℕ, zero, suc, _+_, _-_, _*_, _/_, _%_, _^_, _≤_, _<_}
-use native.Mathlib.Nat.{lt-of-lt-of-le}
-use lib.Pow.{pow-add, pow-mono}
+use native.Mathlib.Nat.{lt-of-lt-of-le, div-add-mod'}
+use lib.Pow.{pow-add, pow-mono, shr-lt}
 use native.Mathlib.Numerals.{add-one, sub-one}
 use native.Mathlib.Omega.{arith}
 use mathlib.Core.List.{List, [], _∷_, _++_, append-assoc, append-nil}
 use lib.ListN.{length, take, drop, set, getD, length-append, length-drop, length-set, drop-of-length-le, take-append-drop, List·getD-eq-default}
-use lib.Seq.{length-take-le, set-split, take-at, drop-at, append-snoc, drop-drop, take-suc, take-all}
+use lib.Seq.{length-take-le, set-split, take-at, drop-at, append-snoc, drop-drop, take-suc, take-all, getD-append-add, getD-at}
 use Rattle.numbers.specs.Fields.{bytesOf, fieldAt, front, over}
 
 -- ---- reading
@@ -151,3 +151,17 @@ pub run-then : (d : List ℕ) (at : ℕ) (xs : List ℕ) (next : ℕ) (e ys f : 
     → Run d at (xs ++ ys) (m + k) f
 run-then d at xs next e ys f m k r h l q g =
     record { whole = over-then at m xs ys d e f (r .whole) h (omega (arith, r .count)) g; count = omega (arith, r .count, length-append xs ys) }
+
+-- ---- what was written reads back the same
+
+pub field-written : (n x : ℕ) (p r : List ℕ) → x < 2 ^ (8 * n) → fieldAt n (p ++ (bytesOf n x ++ r)) (length p) ≡ x
+unfolding fieldAt bytesOf
+field-written zero x p r h = omega arith
+field-written (suc n) x p r h =
+    let e : 8 * suc n ≡ 8 * n + 8 = omega arith in
+    let k : x / 256 < 2 ^ (8 * n) = shr-lt (8 * n) 8 (subst (λ (y : ℕ). x < 2 ^ y) e h) in
+    let l : bytesOf n (x / 256) ++ x % 256 ∷ [] ++ r ≡ bytesOf n (x / 256) ++ x % 256 ∷ r = append-snoc (bytesOf n (x / 256)) (x % 256) r in
+    let a : fieldAt n (p ++ (bytesOf n (x / 256) ++ x % 256 ∷ r)) (length p) ≡ x / 256 = field-written n (x / 256) p (x % 256 ∷ r) k in
+    let b : getD (p ++ (bytesOf n (x / 256) ++ x % 256 ∷ r)) (length p + n) 0 ≡ x % 256 =
+    getD-append-add p (bytesOf n (x / 256) ++ x % 256 ∷ r) n 0 ∙ getD-at (bytesOf n (x / 256)) (x % 256) r 0 n (length-bytesOf n (x / 256)) in
+    rw (l, a, b) (div-add-mod' x 256)

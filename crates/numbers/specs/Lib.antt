@@ -3,3 +3,4 @@ pub mod Fields
 pub mod Whole
 pub mod Single
 pub mod Play
+pub mod Pins
