@@ -46,7 +46,10 @@ module _ (f : Format) (b : ℕ) (h : b < 2 * top f) where
     | inr n ↦ rw (is-nan f b n) (keeps-nan f)
     | inl n ↦ elim (eq-or-lt-of-le n) [
       | inl e ↦ rw (is-inf f b h e) (keeps-inf f (leb (top f) b))
-      | inr l ↦ let s = leb (top f) b in let a = digits f b * 2 ^ places f b in convert-val f v s a (2 ^ low f) (pow-pos (low f)) (is-finite f b l) ∙ same-value f (round f s a (2 ^ low f)) v s a (round-fits f s a (2 ^ low f)) (ofBits-fits f b)
+      | inr l ↦
+          let s = leb (top f) b in
+          let a = digits f b * 2 ^ places f b in
+          convert-val f v s a (2 ^ low f) (pow-pos (low f)) (is-finite f b l) ∙ same-value f (round f s a (2 ^ low f)) v s a (round-fits f s a (2 ^ low f)) (ofBits-fits f b)
           (round-exact f s a (2 ^ low f) (digits f b) (places f b) (pow-pos (low f)) small (under l) refl) (is-finite f b l)
     ]
   ]

@@ -40,7 +40,9 @@ pub is-inf : (f : Format) (b : ℕ) → b < 2 * top f → b % top f ≡ ones f *
 is-inf f b h e = go (leb (top f) b) (leb→le (top f) b) (nleb→lt (top f) b)
   where
     pattern : (t b r : ℕ) → b < 2 * t → t ≤ b → b % t ≡ r → t + r ≡ b
-    pattern t b r h l e = let k : b < t + t = omega arith in ap (λ (x : ℕ). t + x) (sym e ∙ mod-eq-sub-mod l ∙ mod-eq-of-lt (sub-lt-left-of-lt-add l k)) ∙ add-sub-of-le l
+    pattern t b r h l e =
+        let k : b < t + t = omega arith in
+        ap (λ (x : ℕ). t + x) (sym e ∙ mod-eq-sub-mod l ∙ mod-eq-of-lt (sub-lt-left-of-lt-add l k)) ∙ add-sub-of-le l
 
     go : (s : Bool) → (T s → top f ≤ b) → (T (not s) → b < top f) → ofBits f b ≡ inf s
     go true l k = ap (ofBits f) (sym (bits-inf f true ∙ pattern (top f) b (ones f * hid f) h (l tt) e)) ∙ ofBits-toBits f (inf true) (inf-fits f true)
@@ -49,7 +51,10 @@ is-inf f b h e = go (leb (top f) b) (leb→le (top f) b) (nleb→lt (top f) b)
 finite : (f : Format) (s : Bool) (x t : ℕ) → x < ones f → HasValue (ofFields f s x t) s ((pick (eqb x 0) 0 (hid f) + t) * 2 ^ (x - 1)) (2 ^ low f)
 unfolding ofFields
 finite f s zero t h = rw (zero-add t) (odd-sign (prec f) s t 0 (low f))
-finite f s (suc x) t h = let e : suc x - 1 ≡ x = omega arith in let n : suc x ≡ ones f → ⊥ = λ q. absurd (omega arith) in rw (ne-eqb (suc x) (ones f) n, eqb·suc-zero x, e) (odd-sign (prec f) s (hid f + t) x (low f))
+finite f s (suc x) t h =
+    let e : suc x - 1 ≡ x = omega arith in
+    let n : suc x ≡ ones f → ⊥ = λ q. absurd (omega arith) in
+    rw (ne-eqb (suc x) (ones f) n, eqb·suc-zero x, e) (odd-sign (prec f) s (hid f + t) x (low f))
 
 pub is-finite : (f : Format) (b : ℕ) → b % top f < ones f * hid f → HasValue (ofBits f b) (leb (top f) b) (digits f b * 2 ^ places f b) (2 ^ low f)
 unfolding ofBits

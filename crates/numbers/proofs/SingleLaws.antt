@@ -30,11 +30,17 @@ module _ (p g l L c : ℕ) (P : 0 < p) (few : p ≤ g) (at : g + c + l ≡ p + L
   n = q * 2 ^ j * 2 ^ l
 
   drop-none : j ≤ c → drop p n (2 ^ L) ≡ 0
-  drop-none h = let e : g + j + l ≤ p + L = omega arith in let a : n < 2 ^ p * 2 ^ L = lt-of-lt-of-le (shl-lt (g + j) l (shl-lt g j small)) (le-trans (pow-mono e) (le-of-eq (pow-add 2 p L))) in let b : size (n / 2 ^ L) ≤ p = size-le (n / 2 ^ L) p (div-lt-iff-lt-mul (pow-pos L) .1 a) in omega arith
+  drop-none h =
+      let e : g + j + l ≤ p + L = omega arith in
+      let a : n < 2 ^ p * 2 ^ L = lt-of-lt-of-le (shl-lt (g + j) l (shl-lt g j small)) (le-trans (pow-mono e) (le-of-eq (pow-add 2 p L))) in
+      let b : size (n / 2 ^ L) ≤ p = size-le (n / 2 ^ L) p (div-lt-iff-lt-mul (pow-pos L) .1 a) in
+      omega arith
 
   drop-some : c < j → 2 ^ (g - 1) ≤ q → drop p n (2 ^ L) ≡ j - c
   drop-some h lead = let a = p - 1 + (j - c) in let e : a + L ≡ g - 1 + j + l = omega arith in let f : g + j + l ≡ suc a + L = omega arith in let lo : 2 ^ a * 2 ^ L ≤ n = le-trans (le-of-eq (sym (pow-add 2 a L) ∙ ap (λ (x : ℕ). 2 ^ x) e ∙ sym (three (g - 1) j l))) (mul-le-mul-right (2 ^ l) (mul-le-mul-right (2 ^ j) lead)) in
-      let hi : n < 2 ^ suc a * 2 ^ L = lt-of-lt-of-le (shl-lt (g + j) l (shl-lt g j small)) (le-of-eq (ap (λ (x : ℕ). 2 ^ x) f ∙ pow-add 2 (suc a) L)) in let z : size (n / 2 ^ L) ≡ suc a = size-exact a (n / 2 ^ L) (le-div-iff-mul-le (pow-pos L) .1 lo) (div-lt-iff-lt-mul (pow-pos L) .1 hi) in omega arith
+      let hi : n < 2 ^ suc a * 2 ^ L = lt-of-lt-of-le (shl-lt (g + j) l (shl-lt g j small)) (le-of-eq (ap (λ (x : ℕ). 2 ^ x) f ∙ pow-add 2 (suc a) L)) in
+      let z : size (n / 2 ^ L) ≡ suc a = size-exact a (n / 2 ^ L) (le-div-iff-mul-le (pow-pos L) .1 lo) (div-lt-iff-lt-mul (pow-pos L) .1 hi) in
+      omega arith
 
 drops : (q j : ℕ) → q < 2 ^ 53 → (0 < j → 2 ^ 52 ≤ q) → drop 24 (q * 2 ^ j * 2 ^ 149) (2 ^ 1074) ≡ j - 896
 drops q j h l = elim (le-or-lt j 896) [
@@ -43,7 +49,10 @@ drops q j h l = elim (le-or-lt j 896) [
 ]
 
 pub narrowed : (v : Float) (s : Bool) (q j : ℕ) → q < 2 ^ 53 → (0 < j → 2 ^ 52 ≤ q) → HasValue v s (q * 2 ^ j) (2 ^ 1074) → toBits binary32 (convert binary32 v) ≡ cond s 2147483648 0 + single q j
-narrowed v s q j h l val = let k = j - 896 in let z = 925 + k - j in ap (toBits binary32) (convert-val binary32 v s (q * 2 ^ j) (2 ^ 1074) (pow-pos 1074) val) ∙ round-bits binary32 s (q * 2 ^ j) (2 ^ 1074) k (drops q j h l) ∙ ap (λ (x : ℕ). cond s 2147483648 0 + min (k * 8388608 + x) 2139095040)
+narrowed v s q j h l val =
+    let k = j - 896 in
+    let z = 925 + k - j in
+    ap (toBits binary32) (convert-val binary32 v s (q * 2 ^ j) (2 ^ 1074) (pow-pos 1074) val) ∙ round-bits binary32 s (q * 2 ^ j) (2 ^ 1074) k (drops q j h l) ∙ ap (λ (x : ℕ). cond s 2147483648 0 + min (k * 8388608 + x) 2139095040)
     (closest-same (q * 2 ^ j * 2 ^ 149) (2 ^ 1074 * 2 ^ k) q (2 ^ z) (mul-pos (pow-pos 1074) (pow-pos k)) (pow-pos z) (moved q j 149 1074 k z (omega arith)))
 
 sign : (b : ℕ) → b < 18446744073709551616 → cond (leb 9223372036854775808 b) 2147483648 0 ≡ b / 9223372036854775808 * 2147483648
@@ -69,7 +78,10 @@ unfolding singleOf recode
 single-ieee b h = elim (le-or-lt (b % 9223372036854775808) 9218868437227405312) [
   | inr n ↦ rw (lt-ltb 9218868437227405312 (b % 9223372036854775808) n, is-nan binary64 b n) (sym bits-nan)
   | inl n ↦ rw (le-ltb 9218868437227405312 (b % 9223372036854775808) n) (elim (eq-or-lt-of-le n) [
-    | inl e ↦ let j : 255 ≤ places binary64 b - 896 = omega arith in let x = closest (digits binary64 b) (2 ^ (925 + (places binary64 b - 896) - places binary64 b)) in ap (λ (z : ℕ). z + single (digits binary64 b) (places binary64 b)) (sym (sign b h))
+    | inl e ↦
+        let j : 255 ≤ places binary64 b - 896 = omega arith in
+        let x = closest (digits binary64 b) (2 ^ (925 + (places binary64 b - 896) - places binary64 b)) in
+        ap (λ (z : ℕ). z + single (digits binary64 b) (places binary64 b)) (sym (sign b h))
         ∙ ap (λ (z : ℕ). cond (leb 9223372036854775808 b) 2147483648 0 + z) (capped x (places binary64 b - 896) j) ∙ sym (ap (λ (v : Float). toBits binary32 (convert binary32 v)) (is-inf binary64 b h e) ∙ keeps-inf (leb 9223372036854775808 b))
     | inr l ↦ ap (λ (z : ℕ). z + single (digits binary64 b) (places binary64 b)) (sym (sign b h)) ∙ sym (narrowed (ofBits binary64 b) (leb 9223372036854775808 b) (digits binary64 b) (places binary64 b) (digits-lt binary64 b) (digits-ge binary64 b) (is-finite binary64 b l))
   ])
