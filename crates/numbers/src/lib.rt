@@ -1,7 +1,8 @@
 // Numbers as AMF0 and RTMP carry them: doubles, singles and whole numbers by their bits, and big-endian fields of bytes.
 //
 // A number that is echoed stays the same 64 bits, so every conversion takes and gives bits; an `f64` or
-// an `f32` is made only where a value is compared or held. Each public function has an answer for every input.
+// an `f32` is made only where a value is compared or held. Every conversion and every reader has an answer for
+// every input; the writers are inner ones, and ask their callers for room.
 mod fields;
 mod play;
 mod single;
