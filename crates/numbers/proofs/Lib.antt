@@ -1,3 +1,4 @@
+pub mod ChooseLaws
 pub mod FieldsLaws
 pub mod RoundingLaws
 pub mod PatternLaws

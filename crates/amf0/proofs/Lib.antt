@@ -1,0 +1,4 @@
+pub mod ReadingLaws
+pub mod SkippingLaws
+pub mod BodiesLaws
+pub mod PropertyLaws

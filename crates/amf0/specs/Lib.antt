@@ -1,0 +1,4 @@
+pub mod Reading
+pub mod Skipping
+pub mod Bodies
+pub mod Properties
