@@ -2,3 +2,4 @@ pub mod ReadingLaws
 pub mod SkippingLaws
 pub mod BodiesLaws
 pub mod PropertyLaws
+pub mod CompleteLaws

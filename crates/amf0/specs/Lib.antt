@@ -1,3 +1,4 @@
+pub mod Grammar
 pub mod Reading
 pub mod Skipping
 pub mod Bodies

@@ -7,3 +7,4 @@ pub mod SingleLaws
 pub mod ExactLaws
 pub mod WholeLaws
 pub mod PlayLaws
+pub mod PlaceLaws
