@@ -3,3 +3,4 @@ pub mod SkippingLaws
 pub mod BodiesLaws
 pub mod PropertyLaws
 pub mod CompleteLaws
+pub mod SoundLaws

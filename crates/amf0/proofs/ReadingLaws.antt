@@ -114,3 +114,50 @@ name-value s i n e z h =
 pub name-long : (s : List ℕ) (i : ℕ) → (fieldAt 2 s i ≡ 0 → ⊥) → i + 2 ≤ length s → length s < i + 2 + fieldAt 2 s i → Cut ≡ nameAt s i
 unfolding nameAt
 name-long s i z g h = simp (le-leb (i + 2) (length s) (omega arith), ne-eqb (fieldAt 2 s i) 0 (omega arith), lt-leb (i + 2 + fieldAt 2 s i) (length s) (omega arith))
+
+-- ---- what can stand at a place, with what the tests say of it
+module _ (s : List ℕ) (at : ℕ) (P : Read → Type 0) (none : P nothing) where
+  abbrev Fixed : ℕ → ℕ → Amf0Value → Type 0
+  Fixed m n v = getD s at 0 ≡ m → at + 1 + n ≤ length s → P (record { value = v; next = at + 1 + n })
+
+  -- a text behind its length of w bytes
+  abbrev Counted : ℕ → ℕ → (ℕ → ℕ → Amf0Value) → Type 0
+  Counted m w made = getD s at 0 ≡ m → at + 1 + w + fieldAt w s (at + 1) ≤ length s → P (record { value = made (at + 1 + w) (fieldAt w s (at + 1)); next = at + 1 + w + fieldAt w s (at + 1) })
+
+  fixed : (m n : ℕ) (v : Amf0Value) → Fixed m n v → getD s at 0 ≡ m → P (held s (at + 1) n v)
+  unfolding held
+  fixed m n v f e = pick-le P _ _ (at + 1 + n) (length s) (f e) (λ k. none)
+
+  texts : (m w : ℕ) (made : ℕ → ℕ → Amf0Value) → Counted m w made → getD s at 0 ≡ m → P (textAt w made s (at + 1))
+  unfolding textAt held
+  texts m w made f e = pick-le P _ _ (at + 1 + w) (length s) (λ k. pick-le P _ _ (at + 1 + w + fieldAt w s (at + 1)) (length s) (f e) (λ k. none)) (λ k. none)
+
+  pub read-kinds : Fixed 0x00 8 (Number (ofBits binary64 (fieldAt 8 s (at + 1)))) → Fixed 0x01 1 (Boolean (not (eqb (fieldAt 1 s (at + 1)) 0))) → Counted 0x02 2 Text
+      → Fixed 0x03 0 (Object (at + 1)) → Fixed 0x05 0 Null → Fixed 0x06 0 Undefined → Fixed 0x08 0 (EcmaArray (at + 1)) → Fixed 0x0A 0 (StrictArray (at + 1)) → Fixed 0x0B 10 Date
+      → Counted 0x0C 4 LongText → P (readAt s at)
+  unfolding readAt byMarker
+  read-kinds num boo txt obj nul und ecm str dat lng =
+      let m : ℕ = getD s at 0 in
+      pick-lt P _ _ at (length s)
+      (λ h. pick-eq P _ _ m 0x00 (fixed 0x00 8 _ num)
+      (λ n. pick-eq P _ _ m 0x01 (fixed 0x01 1 _ boo)
+      (λ n. pick-eq P _ _ m 0x02 (texts 0x02 2 Text txt)
+      (λ n. pick-eq P _ _ m 0x03 (fixed 0x03 0 _ obj)
+      (λ n. pick-eq P _ _ m 0x05 (fixed 0x05 0 _ nul)
+      (λ n. pick-eq P _ _ m 0x06 (fixed 0x06 0 _ und)
+      (λ n. pick-eq P _ _ m 0x08 (fixed 0x08 0 _ ecm)
+      (λ n. pick-eq P _ _ m 0x0A (fixed 0x0A 0 _ str)
+      (λ n. pick-eq P _ _ m 0x0B (fixed 0x0B 10 _ dat)
+      (λ n. pick-eq P _ _ m 0x0C (texts 0x0C 4 LongText lng)
+      (λ n. none)))))))))))
+      (λ h. none)
+
+pub name-kinds : (s : List ℕ) (i : ℕ) (P : NameAt → Type 0) → P Cut → (fieldAt 2 s i ≡ 0 → i + 2 < length s → getD s (i + 2) 0 ≡ 9 → P (End (i + 3)))
+    → ((fieldAt 2 s i ≡ 0 → ⊥) → i + 2 + fieldAt 2 s i ≤ length s → P (Value (i + 2 + fieldAt 2 s i))) → P (nameAt s i)
+unfolding nameAt
+name-kinds s i P cut end val =
+    pick-le P _ _ (i + 2) (length s)
+    (λ h. pick-eq P _ _ (fieldAt 2 s i) 0
+    (λ e. pick-lt P _ _ (i + 2) (length s) (λ k. pick-eq P _ _ (getD s (i + 2) 0) 9 (end e k) (λ m. cut)) (λ k. cut))
+    (λ e. pick-le P _ _ (i + 2 + fieldAt 2 s i) (length s) (val e) (λ k. cut)))
+    (λ h. cut)

@@ -7,8 +7,8 @@ use mathlib.Core.List.{List}
 use lib.ListN.{length, getD}
 use borrow.Author.Tests.{le-leb, lt-leb}
 use Rattle.numbers.specs.Fields.{fieldAt}
-use Rattle.numbers.proofs.ChooseLaws.{pick-eq, pick-le, pick-lt}
-use Rattle.amf0.specs.Reading.{byMarker, extent, extentAt, held, nameAt, nothing, readAt, textAt}
+use Rattle.numbers.proofs.ChooseLaws.{pick-le}
+use Rattle.amf0.specs.Reading.{extent, extentAt, nameAt, nothing, readAt}
 use Rattle.amf0.specs.Skipping.{afterName, afterValue, array, opened, pairs, pairsF, shut, skipV, strict, valuesF}
 use Rattle.amf0.specs.declared.skip.Skip.{Skip}
 use Rattle.amf0.specs.declared.skip.Skip.the-variants.{Next, Bad, Deep}
@@ -19,7 +19,7 @@ use Rattle.amf0.specs.declared.value.Extent.{Extent}
 use Rattle.amf0.specs.declared.value.Extent.the-variants.{Ends, Pairs, CountedPairs, Values, Wrong}
 use Rattle.amf0.specs.declared.value.NameAt.{NameAt}
 use Rattle.amf0.specs.declared.value.NameAt.the-variants.{End, Value, Cut}
-use Rattle.amf0.proofs.ReadingLaws.{name-cut}
+use Rattle.amf0.proofs.ReadingLaws.{name-cut, name-kinds, read-kinds}
 
 -- a place past i and within s
 abbrev pub Past : List ℕ → ℕ → ℕ → Type 0
@@ -28,45 +28,15 @@ Past s i n = (i < n) × (n ≤ length s)
 -- every name is one of these
 pub name-cases : (s : List ℕ) (i : ℕ) (P : NameAt → Type 0) → P Cut → ((n : ℕ) → Past s i n → P (End n)) → ((v : ℕ) → (i + 2 < v) × (v ≤ length s) → P (Value v))
     → P (nameAt s i)
-unfolding nameAt
-name-cases s i P cut end value =
-    pick-le P _ _ (i + 2) (length s)
-    (λ h. pick-eq P _ _ (fieldAt 2 s i) 0
-    (λ e. pick-lt P _ _ (i + 2) (length s)
-    (λ k. pick-eq P _ _ (getD s (i + 2) 0) 9 (λ m. end (i + 3) (omega arith)) (λ m. cut))
-    (λ k. cut))
-    (λ e. pick-le P _ _ (i + 2 + fieldAt 2 s i) (length s) (λ k. value (i + 2 + fieldAt 2 s i) (omega arith)) (λ k. cut)))
-    (λ h. cut)
+name-cases s i P cut end val = name-kinds s i P cut (λ e k m. end (i + 3) (omega arith)) (λ e k. val (i + 2 + fieldAt 2 s i) (omega arith))
 
 -- every read is nothing, or ends past its marker and within the body
-module _ (s : List ℕ) (at : ℕ) (P : Read → Type 0) (none : P nothing) (some : (v : Amf0Value) (n : ℕ) → Past s at n → P (record { value = v; next = n })) where
-  held-cases : (p n : ℕ) (v : Amf0Value) → at < p → P (held s p n v)
-  unfolding held
-  held-cases p n v h = pick-le P _ _ (p + n) (length s) (λ k. some v (p + n) (omega arith)) (λ k. none)
-
-  text-cases : (w : ℕ) (made : ℕ → ℕ → Amf0Value) (p : ℕ) → at < p → P (textAt w made s p)
-  unfolding textAt
-  text-cases w made p h = pick-le P _ _ (p + w) (length s) (λ k. held-cases (p + w) (fieldAt w s p) (made (p + w) (fieldAt w s p)) (omega arith)) (λ k. none)
-
-  pub read-cases : P (readAt s at)
-  unfolding readAt byMarker
-  read-cases =
-      pick-lt P _ _ at (length s)
-      (λ h.
-      let p : ℕ = at + 1 in
-      let m : ℕ = getD s at 0 in
-      pick-eq P _ _ m 0 (λ e. held-cases p 8 _ (omega arith))
-      (λ e. pick-eq P _ _ m 1 (λ e. held-cases p 1 _ (omega arith))
-      (λ e. pick-eq P _ _ m 2 (λ e. text-cases 2 Text p (omega arith))
-      (λ e. pick-eq P _ _ m 3 (λ e. held-cases p 0 _ (omega arith))
-      (λ e. pick-eq P _ _ m 5 (λ e. held-cases p 0 _ (omega arith))
-      (λ e. pick-eq P _ _ m 6 (λ e. held-cases p 0 _ (omega arith))
-      (λ e. pick-eq P _ _ m 8 (λ e. held-cases p 0 _ (omega arith))
-      (λ e. pick-eq P _ _ m 10 (λ e. held-cases p 0 _ (omega arith))
-      (λ e. pick-eq P _ _ m 11 (λ e. held-cases p 10 _ (omega arith))
-      (λ e. pick-eq P _ _ m 12 (λ e. text-cases 4 LongText p (omega arith))
-      (λ e. none)))))))))))
-      (λ h. none)
+pub read-cases : (s : List ℕ) (at : ℕ) (P : Read → Type 0) → P nothing → ((v : Amf0Value) (n : ℕ) → Past s at n → P (record { value = v; next = n })) → P (readAt s at)
+read-cases s at P none some =
+    let fixed : (m n : ℕ) (v : Amf0Value) → getD s at 0 ≡ m → at + 1 + n ≤ length s → P (record { value = v; next = at + 1 + n }) = λ m n v e h. some v (at + 1 + n) (omega arith) in
+    let texts : (w : ℕ) (made : ℕ → ℕ → Amf0Value) → at + 1 + w + fieldAt w s (at + 1) ≤ length s → P (record { value = made (at + 1 + w) (fieldAt w s (at + 1)); next = at + 1 + w + fieldAt w s (at + 1) })
+    = λ w made h. some (made (at + 1 + w) (fieldAt w s (at + 1))) (at + 1 + w + fieldAt w s (at + 1)) (omega arith) in
+    read-kinds s at P none (fixed 0x00 8 _) (fixed 0x01 1 _) (λ e h. texts 2 Text h) (fixed 0x03 0 _) (fixed 0x05 0 _) (fixed 0x06 0 _) (fixed 0x08 0 _) (fixed 0x0A 0 _) (fixed 0x0B 10 _) (λ e h. texts 4 LongText h)
 
 -- every extent is one of these
 pub extent-cases : (s : List ℕ) (at : ℕ) (P : Extent → Type 0) → P Wrong → ((n : ℕ) → Past s at n → P (Ends n)) → ((p : ℕ) → Past s at p → P (Pairs p))
