@@ -4,3 +4,4 @@ pub mod BodiesLaws
 pub mod PropertyLaws
 pub mod CompleteLaws
 pub mod SoundLaws
+pub mod BodyTheorems

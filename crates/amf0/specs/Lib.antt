@@ -3,3 +3,4 @@ pub mod Reading
 pub mod Skipping
 pub mod Bodies
 pub mod Properties
+pub mod Showing
