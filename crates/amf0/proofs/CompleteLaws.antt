@@ -5,7 +5,8 @@ use native.Mathlib.Numerals.{sub-one}
 use native.Mathlib.Omega.{arith}
 use mathlib.Core.Bool.{not}
 use mathlib.Core.List.{List, [], _∷_, _++_, append-assoc}
-use lib.ListN.{length, drop, getD, length-append}
+use lib.ListN.{length, take, drop, getD, length-append}
+use lib.Seq.{take-append-seam}
 use lib.Dec.{eqb, lit≤}
 use lib.Ieee.{binary64, ofBits}
 use borrow.Author.Tests.{le-leb}
@@ -30,14 +31,14 @@ use Rattle.amf0.proofs.SkippingLaws.{moves, pairs-step, skip-array, ski
 -- ---- what stands behind a marker
 module _ (s c : List ℕ) (at m : ℕ) (e : drop at s ≡ m ∷ c) where
   -- the value is read whole, if its bytes are in the body
-  read-is : (p n : ℕ) (v : Amf0Value) → byMarker s (at + 1) m ≡ held s p n v → p + n ≤ length s → readAt s at ≡ record { value = v; next = p + n }
+  pub read-is : (p n : ℕ) (v : Amf0Value) → byMarker s (at + 1) m ≡ held s p n v → p + n ≤ length s → readAt s at ≡ record { value = v; next = p + n }
   read-is p n v k h = sym (read-in s at (byMarker s (at + 1) m) (ap (byMarker s (at + 1)) (sym (byte-is s c at m e))) (byte-in s c at m e)) ∙ k ∙ sym (held-yes s p n v h)
 
-  extent-is : (p n : ℕ) (v : Amf0Value) → byMarker s (at + 1) m ≡ held s p n v → p + n ≤ length s → extentAt s at ≡ extent v (p + n)
+  pub extent-is : (p n : ℕ) (v : Amf0Value) → byMarker s (at + 1) m ≡ held s p n v → p + n ≤ length s → extentAt s at ≡ extent v (p + n)
   extent-is p n v k h = sym (extent-read s at (record { value = v; next = p + n }) (extent v (p + n)) refl (sym (read-is p n v k h)))
 
   -- a text of length t behind its length of w bytes
-  text-is : (w : ℕ) (made : ℕ → ℕ → Amf0Value) (t r : List ℕ) → 0 < w → length t < 2 ^ (8 * w) → byMarker s (at + 1) m ≡ textAt w made s (at + 1) → c ≡ counted w t ++ r
+  pub text-is : (w : ℕ) (made : ℕ → ℕ → Amf0Value) (t r : List ℕ) → 0 < w → length t < 2 ^ (8 * w) → byMarker s (at + 1) m ≡ textAt w made s (at + 1) → c ≡ counted w t ++ r
       → (byMarker s (at + 1) m ≡ held s (at + 1 + w) (length t) (made (at + 1 + w) (length t))) × (at + 1 + w + length t ≤ length s)
   unfolding textAt
   text-is w made t r z h k q =
@@ -121,12 +122,12 @@ module _ (s r : List ℕ) (left at : ℕ) where
   pairs-by : (x : NameAt) → nameAt s at ≡ x → pairs (skipV s left) s at ≡ afterName x (skipV s left) (pairs (skipV s left) s)
   pairs-by x e = pairs-step s (skipV s left) (moves s left) at ∙ ap (λ (y : NameAt). afterName y (skipV s left) (pairs (skipV s left) s)) e
 
-  none-skips : drop at s ≡ (0x00 ∷ 0x00 ∷ 0x09 ∷ []) ++ r → pairs (skipV s left) s at ≡ Next (at + 3)
+  pub none-is : drop at s ≡ (0x00 ∷ 0x00 ∷ 0x09 ∷ []) ++ r → nameAt s at ≡ End (at + 3)
   unfolding bytesOf
-  none-skips e =
+  none-is e =
       let f : fieldAt 2 s at ≡ 0 = field-is 2 0 s (0x09 ∷ r) at (lit≤ tt) (lit≤ tt) e in
       let n : drop (at + 2) s ≡ 0x09 ∷ r = rest-at s (bytesOf 2 0) (0x09 ∷ r) at e in
-      pairs-by (End (at + 3)) (sym (name-end s at (at + 3) refl f (byte-in s r (at + 2) 0x09 n) (byte-is s r (at + 2) 0x09 n)))
+      sym (name-end s at (at + 3) refl f (byte-in s r (at + 2) 0x09 n) (byte-is s r (at + 2) 0x09 n))
 
   -- a name, its value and the other pairs
   module _ (t c d : List ℕ) (e : drop at s ≡ (counted 2 t ++ (c ++ d)) ++ r) where
@@ -144,18 +145,25 @@ module _ (s r : List ℕ) (left at : ℕ) where
     pub pairs-at : drop (v + length c) s ≡ d ++ r
     pairs-at = rest-at s c (d ++ r) v value-at
 
-    pub property-skips : 0 < length t → length t < 2 ^ 16 → skipV s left v ≡ Next (v + length c) → pairs (skipV s left) s (v + length c) ≡ Next (v + length c + length d)
-        → pairs (skipV s left) s at ≡ Next (at + length (counted 2 t ++ (c ++ d)))
-    property-skips z h k g =
+    pub name-is : 0 < length t → length t < 2 ^ 16 → nameAt s at ≡ ValueAt v
+    name-is z h =
         let a = append-assoc (bytesOf 2 (length t)) t (c ++ (d ++ r)) in
         let f : fieldAt 2 s at ≡ length t = field-is 2 (length t) s (t ++ (c ++ (d ++ r))) at (lit≤ tt) h (named ∙ a) in
         let l = length-at s (counted 2 t) (c ++ (d ++ r)) at named in
         let o = length-append (bytesOf 2 (length t)) t in
         let n = length-bytesOf 2 (length t) in
-        let i : v ≤ length s = omega arith in
-        let j : length t ≡ 0 → ⊥ = omega arith in
-        let q : v + length c + length d ≡ at + length (counted 2 t ++ (c ++ d)) = omega (arith, length-append (counted 2 t) (c ++ d), length-append c d) in
-        pairs-by (ValueAt v) (sym (name-value s at (length t) (sym f) j i)) ∙ ap (λ (y : Skip). afterValue y (pairs (skipV s left) s)) k ∙ g ∙ ap Next q
+        sym (name-value s at (length t) (sym f) (omega arith) (omega arith))
+
+    pub name-text : take (v - (at + 2)) (drop (at + 2) s) ≡ t
+    name-text =
+        let q : at + 2 ≡ at + length (bytesOf 2 (length t)) = omega (arith, length-bytesOf 2 (length t)) in
+        let a = append-assoc (bytesOf 2 (length t)) t (c ++ (d ++ r)) in
+        let p : drop (at + 2) s ≡ t ++ (c ++ (d ++ r)) = ap (λ (i : ℕ). drop i s) q ∙ rest-at s (bytesOf 2 (length t)) (t ++ (c ++ (d ++ r))) at (named ∙ a) in
+        let n : v - (at + 2) ≡ length t = omega arith in
+        ap (λ (i : ℕ). take i (drop (at + 2) s)) n ∙ ap (take (length t)) p ∙ take-append-seam t (c ++ (d ++ r))
+
+    pub property-ends : v + length c + length d ≡ at + length (counted 2 t ++ (c ++ d))
+    property-ends = omega (arith, length-append (counted 2 t) (c ++ d), length-append c d, length-append (bytesOf 2 (length t)) t, length-bytesOf 2 (length t))
 
 -- ---- the theorem: every value, every row of pairs, every row of values
 mutual
@@ -177,11 +185,13 @@ mutual
   complete (long t) s r b left at (h, q) d = subst (Skipped s r left at) (sym q) (text-skips s r left at 0x0C 4 LongText t refl (λ p n. refl) (lit≤ tt) h)
 
   pub completeIn : (ps : Properties) (s r b : List ℕ) (left at : ℕ) → SpellsProperties ps b → depthIn ps ≤ left → drop at s ≡ b ++ r → pairs (skipV s left) s at ≡ Next (at + length b)
-  completeIn none s r b left at q d = subst (λ (y : List ℕ). drop at s ≡ y ++ r → pairs (skipV s left) s at ≡ Next (at + length y)) (sym q) (none-skips s r left at)
+  completeIn none s r b left at q d = subst (λ (y : List ℕ). drop at s ≡ y ++ r → pairs (skipV s left) s at ≡ Next (at + length y)) (sym q) (λ g. pairs-by s r left at (End (at + 3)) (none-is s r left at g))
   completeIn (property t v ps) s r b left at (z, (h, (c, (p, (e, (k, q)))))) d =
       subst (λ (y : List ℕ). drop at s ≡ y ++ r → pairs (skipV s left) s at ≡ Next (at + length y)) (sym q)
-      (λ g. property-skips s r left at t c e g z h (complete v s (e ++ r) c left (at + 2 + length t) p (omega arith) (value-at s r left at t c e g))
-      (completeIn ps s r e left (at + 2 + length t + length c) k (omega arith) (pairs-at s r left at t c e g)))
+      (λ g. pairs-by s r left at (ValueAt (at + 2 + length t)) (name-is s r left at t c e g z h)
+      ∙ ap (λ (y : Skip). afterValue y (pairs (skipV s left) s)) (complete v s (e ++ r) c left (at + 2 + length t) p (omega arith) (value-at s r left at t c e g))
+      ∙ completeIn ps s r e left (at + 2 + length t + length c) k (omega arith) (pairs-at s r left at t c e g)
+      ∙ ap Next (property-ends s r left at t c e g))
 
   pub completeOf : (vs : Row) (s r b : List ℕ) (left at : ℕ) → SpellsRow vs b → depthOf vs ≤ left → drop at s ≡ b ++ r → valuesF (skipV s left) (count vs) at ≡ Next (at + length b)
   completeOf done s r b left at q d e = let z : at ≡ at + length b = omega (arith, ap length q) in ap Next z

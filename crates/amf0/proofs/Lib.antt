@@ -5,3 +5,4 @@ pub mod PropertyLaws
 pub mod CompleteLaws
 pub mod SoundLaws
 pub mod BodyTheorems
+pub mod ReadTheorems

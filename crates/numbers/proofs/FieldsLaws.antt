@@ -16,6 +16,11 @@ use Rattle.numbers.specs.Fields.{bytesOf, fieldAt, front, over}
 pub past-end : (s : List ℕ) (i : ℕ) → length s ≤ i → 0 ≡ getD s i 0
 past-end s i h = sym (List·getD-eq-default s 0 h)
 
+-- a field of one byte
+pub field-byte : (s : List ℕ) (at : ℕ) → fieldAt 1 s at ≡ getD s at 0
+unfolding fieldAt
+field-byte s at = let z : at + 0 ≡ at = omega arith in rw z (omega arith)
+
 -- one byte more
 pub field-on : (s : List ℕ) (at i x b : ℕ) → x ≡ fieldAt i s at → b ≡ getD s (at + i) 0 → x * 256 + b ≡ fieldAt (i + 1) s at
 unfolding fieldAt
