@@ -6,3 +6,4 @@ pub mod CompleteLaws
 pub mod SoundLaws
 pub mod BodyTheorems
 pub mod ReadTheorems
+pub mod WriteTheorems

@@ -4,3 +4,4 @@ pub mod Skipping
 pub mod Bodies
 pub mod Properties
 pub mod Showing
+pub mod Writing
