@@ -140,6 +140,10 @@ pub over-zero : (xs d : List ℕ) → over 0 xs d ≡ front xs d
 unfolding over front
 over-zero xs d = let z : 0 + length xs ≡ length xs = omega arith in ap (λ (n : ℕ). xs ++ drop n d) z
 
+-- a write at the front and one right behind it
+pub front-two : (k : ℕ) (xs ys d e f : List ℕ) → e ≡ over 0 xs d → f ≡ over k ys e → length xs ≡ k → k ≤ length d → f ≡ front (xs ++ ys) d
+front-two k xs ys d e f he hf l h = over-then 0 k xs ys d e f he hf (omega arith) h ∙ over-zero (xs ++ ys) d
+
 -- e is d after a run of writes of xs in all, which began at `at` and has come to `next`
 pub record Run (d : List ℕ) (at : ℕ) (xs : List ℕ) (next : ℕ) (e : List ℕ) : Type 0 where
   pub whole : e ≡ over at xs d
