@@ -77,7 +77,7 @@ module _ (s r : List ℕ) (left at : ℕ) where
 -- ---- containers, by what they hold
 module _ (s r : List ℕ) (left at : ℕ) where
   -- what a container's marker says
-  holds : (m : ℕ) (v : Amf0Value) (c : List ℕ) → byMarker s (at + 1) m ≡ held s (at + 1) 0 v → drop at s ≡ m ∷ c → skipV s (suc left) at ≡ opened (skipV s left) s (extent v (at + 1))
+  pub holds : (m : ℕ) (v : Amf0Value) (c : List ℕ) → byMarker s (at + 1) m ≡ held s (at + 1) 0 v → drop at s ≡ m ∷ c → skipV s (suc left) at ≡ opened (skipV s left) s (extent v (at + 1))
   unfolding skipV
   holds m v c k e =
       let z : at + 1 + 0 ≡ at + 1 = omega arith in
@@ -92,13 +92,13 @@ module _ (s r : List ℕ) (left at : ℕ) where
 
   -- four bytes of count and what follows
   module _ (m n : ℕ) (c : List ℕ) (e : drop at s ≡ (m ∷ (bytesOf 4 n ++ c)) ++ r) where
-    count-at : drop (at + 1) s ≡ bytesOf 4 n ++ (c ++ r)
+    pub count-at : drop (at + 1) s ≡ bytesOf 4 n ++ (c ++ r)
     count-at = byte-next s ((bytesOf 4 n ++ c) ++ r) at m e ∙ append-assoc (bytesOf 4 n) c r
 
-    after-count : drop (at + 1 + 4) s ≡ c ++ r
+    pub after-count : drop (at + 1 + 4) s ≡ c ++ r
     after-count = let q : at + 1 + 4 ≡ at + 1 + length (bytesOf 4 n) = omega (arith, length-bytesOf 4 n) in ap (λ (i : ℕ). drop i s) q ∙ rest-at s (bytesOf 4 n) (c ++ r) (at + 1) count-at
 
-    count-room : at + 1 + 4 ≤ length s
+    pub count-room : at + 1 + 4 ≤ length s
     count-room = omega (arith, length-at s (bytesOf 4 n) (c ++ r) (at + 1) count-at, length-bytesOf 4 n)
 
     counted-end : at + 1 + 4 + length c ≡ at + length (m ∷ (bytesOf 4 n ++ c))
@@ -119,7 +119,7 @@ module _ (s r : List ℕ) (left at : ℕ) where
 
 -- ---- pairs
 module _ (s r : List ℕ) (left at : ℕ) where
-  pairs-by : (x : NameAt) → nameAt s at ≡ x → pairs (skipV s left) s at ≡ afterName x (skipV s left) (pairs (skipV s left) s)
+  pub pairs-by : (x : NameAt) → nameAt s at ≡ x → pairs (skipV s left) s at ≡ afterName x (skipV s left) (pairs (skipV s left) s)
   pairs-by x e = pairs-step s (skipV s left) (moves s left) at ∙ ap (λ (y : NameAt). afterName y (skipV s left) (pairs (skipV s left) s)) e
 
   pub none-is : drop at s ≡ (0x00 ∷ 0x00 ∷ 0x09 ∷ []) ++ r → nameAt s at ≡ End (at + 3)

@@ -7,3 +7,4 @@ pub mod SoundLaws
 pub mod BodyTheorems
 pub mod ReadTheorems
 pub mod WriteTheorems
+pub mod DeepTheorems

@@ -16,7 +16,7 @@ use Rattle.text.specs.Words.{same}
 use Rattle.amf0.specs.Bodies.{placed, placeOf}
 use Rattle.amf0.specs.Grammar.{Properties, Row, Spells, SpellsProperties, SpellsRow, Value, array, boolean, count, counted, date, depth, depthIn, depthOf, done, long, none, null, number, object, property, strict, string, undefined, value}
 use Rattle.amf0.specs.Properties.{better, inside, last, lastProperty, onValue}
-use Rattle.amf0.specs.Reading.{byMarker, extent, extentAt, held, nameAt, nothing as noRead, readAt, textAt}
+use Rattle.amf0.specs.Reading.{byMarker, extent, extentAt, held, nameAt, readAt, textAt}
 use Rattle.amf0.specs.Showing.{Content, Finds, Maybe, Standing, just, lastOf, nothing, nth, shown}
 use Rattle.amf0.specs.Skipping.{afterValue, skipV, valuesF}
 use Rattle.amf0.specs.declared.property.Found.{Found}
@@ -27,13 +27,12 @@ use Rattle.amf0.specs.declared.value.Amf0Value.{Amf0Value}
 use Rattle.amf0.specs.declared.value.Amf0Value.the-variants.{Number, Boolean, Text, Object, Null, Undefined, EcmaArray, StrictArray, Date, LongText}
 use Rattle.amf0.specs.declared.value.Read.{Read}
 use Rattle.amf0.specs.declared.value.Extent.{Extent}
-use Rattle.amf0.specs.declared.value.Extent.the-variants.{Pairs, Wrong}
+use Rattle.amf0.specs.declared.value.Extent.the-variants.{Pairs}
 use Rattle.amf0.specs.declared.value.NameAt.the-variants.{End, Value as ValueAt}
 use Rattle.amf0.proofs.BodiesLaws.{next-value}
 use Rattle.amf0.proofs.CompleteLaws.{complete, extent-is, name-is, name-text, none-is, pairs-at, read-is, text-is, value-at}
 use Rattle.amf0.proofs.PropertyLaws.{last-end, last-value}
-use Rattle.amf0.proofs.ReadingLaws.{extent-read, read-end}
-use Rattle.amf0.proofs.SkippingLaws.{skip-wrong}
+use Rattle.amf0.proofs.SkippingLaws.{skip-past}
 
 -- ---- a value at its place
 
@@ -110,7 +109,7 @@ module _ (s : List ℕ) where
   absent-at done zero b at p d h e g = omega (arith, length-drop at s, ap length (e ∙ p))
   absent-at done (suc n) b at p d h e g =
       let l : length s ≤ at = omega (arith, length-drop at s, ap length (e ∙ p)) in
-      ap (λ (r : Skip). placed (afterValue r (valuesF (skipV s 8) n)) (length s)) (sym (skip-wrong s 8 at (sym (extent-read s at noRead Wrong refl (read-end s at noRead refl l)))))
+      ap (λ (r : Skip). placed (afterValue r (valuesF (skipV s 8) n)) (length s)) (sym (skip-past s 8 at l))
   absent-at (value v vs) zero b at p d h e g = let z : _≡_ {A = ℕ} 0 1 = cc in absurd (omega arith)
   absent-at (value v vs) (suc n) b at (c, (p, (f, (k, q)))) d h e g =
       place-on v c f at n p (omega arith) (e ∙ q)

@@ -19,7 +19,7 @@ use Rattle.amf0.specs.declared.value.Extent.{Extent}
 use Rattle.amf0.specs.declared.value.Extent.the-variants.{Ends, Pairs, CountedPairs, Values, Wrong}
 use Rattle.amf0.specs.declared.value.NameAt.{NameAt}
 use Rattle.amf0.specs.declared.value.NameAt.the-variants.{End, Value, Cut}
-use Rattle.amf0.proofs.ReadingLaws.{name-cut, name-kinds, read-kinds}
+use Rattle.amf0.proofs.ReadingLaws.{extent-read, name-cut, name-kinds, read-end, read-kinds}
 
 -- a place past i and within s
 abbrev pub Past : List ℕ → ℕ → ℕ → Type 0
@@ -209,6 +209,10 @@ pub skip-wrong : (s : List ℕ) (left at : ℕ) → extentAt s at ≡ Wrong → 
 unfolding skipV
 skip-wrong s zero at e = sym (ap shut e)
 skip-wrong s (suc l) at e = sym (ap (opened (skipV s l) s) e)
+
+-- past the body's end stands no value
+pub skip-past : (s : List ℕ) (left at : ℕ) → length s ≤ at → Bad ≡ skipV s left at
+skip-past s left at h = skip-wrong s left at (sym (extent-read s at nothing Wrong refl (read-end s at nothing refl h)))
 
 module _ (s : List ℕ) (left at p : ℕ) (z : left ≡ 0 → ⊥) where
   module _ (e : extentAt s at ≡ CountedPairs p) where
