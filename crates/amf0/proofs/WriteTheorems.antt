@@ -1,15 +1,19 @@
 -- What we write reads back the same: the reader accepts it, and gives the values that were written, bits included.
 use mathlib.Core.Path.{_≡_, refl}
-use Prim.Native.Nat.{ℕ, _≤_}
+use Prim.Native.Nat.{ℕ, _+_, _≤_}
+use native.Mathlib.Omega.{arith}
 use mathlib.Core.Bool.{Bool, true, false, not}
-use mathlib.Core.List.{List, []}
+use mathlib.Core.List.{List, [], _++_}
+use lib.ListN.{length, length-append}
 use lib.Dec.{eqb}
 use Rattle.numbers.specs.Choose.{pick}
+use Rattle.numbers.specs.Fields.{bytesOf}
+use Rattle.numbers.proofs.FieldsLaws.{length-bytesOf}
 use Rattle.amf0.specs.Bodies.{checked, placeOf}
-use Rattle.amf0.specs.Grammar.{Properties, Row, Spells, SpellsProperties, SpellsRow, Value, array, boolean, count, date, depthIn, depthOf, done, long, none, null, number, object, property, strict, string, undefined, value}
+use Rattle.amf0.specs.Grammar.{Properties, Row, Spells, SpellsProperties, SpellsRow, Value, array, boolean, count, counted, date, depthIn, depthOf, done, long, none, null, number, object, property, strict, string, undefined, value}
 use Rattle.amf0.specs.Properties.{lastProperty}
 use Rattle.amf0.specs.Showing.{Finds, Standing, just, lastOf, nothing, nth}
-use Rattle.amf0.specs.Writing.{Fits, FitsIn, FitsOf, encode, encodeIn, encodeOf, size}
+use Rattle.amf0.specs.Writing.{Fits, FitsIn, FitsOf, encode, encodeIn, encodeOf, room, roomIn, roomOf, size}
 use Rattle.amf0.specs.declared.body.Checked.the-variants.{Whole}
 use Rattle.amf0.proofs.BodyTheorems.{row-accepted}
 use Rattle.amf0.proofs.ReadTheorems.{Shows, last-stands, nth-stands, shows}
@@ -17,6 +21,33 @@ use Rattle.amf0.proofs.ReadTheorems.{Shows, last-stands, nth-stands, sh
 said : (t : Bool) → t ≡ not (eqb (pick t 0x01 0x00) 0)
 said true = refl
 said false = refl
+
+-- the bytes written are as many as `room` says
+text-room : (w : ℕ) (t : List ℕ) → length (counted w t) ≡ w + length t
+text-room w t = omega (arith, length-append (bytesOf w (length t)) t, length-bytesOf w (length t))
+
+mutual
+  unfolding encode room
+
+  pub length-encode : (v : Value) → length (encode v) ≡ room v
+  length-encode (number n) = omega (arith, length-bytesOf 8 n)
+  length-encode (boolean t) = refl
+  length-encode (string t) = omega (arith, text-room 2 t)
+  length-encode (object ps) = omega (arith, length-encodeIn ps)
+  length-encode null = refl
+  length-encode undefined = refl
+  length-encode (array ps) = omega (arith, length-append (bytesOf 4 (size ps)) (encodeIn ps), length-bytesOf 4 (size ps), length-encodeIn ps)
+  length-encode (strict vs) = omega (arith, length-append (bytesOf 4 (count vs)) (encodeOf vs), length-bytesOf 4 (count vs), length-encodeOf vs)
+  length-encode (date n z) = omega (arith, length-append (bytesOf 8 n) (bytesOf 2 z), length-bytesOf 8 n, length-bytesOf 2 z)
+  length-encode (long t) = omega (arith, text-room 4 t)
+
+  pub length-encodeIn : (ps : Properties) → length (encodeIn ps) ≡ roomIn ps
+  length-encodeIn none = refl
+  length-encodeIn (property t v ps) = omega (arith, length-append (counted 2 t) (encode v ++ encodeIn ps), length-append (encode v) (encodeIn ps), text-room 2 t, length-encode v, length-encodeIn ps)
+
+  pub length-encodeOf : (vs : Row) → length (encodeOf vs) ≡ roomOf vs
+  length-encodeOf done = refl
+  length-encodeOf (value v vs) = omega (arith, length-append (encode v) (encodeOf vs), length-encode v, length-encodeOf vs)
 
 -- what is written stands for the value
 mutual

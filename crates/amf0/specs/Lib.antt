@@ -5,3 +5,4 @@ pub mod Bodies
 pub mod Properties
 pub mod Showing
 pub mod Writing
+pub mod Examples

@@ -1,5 +1,5 @@
 -- The bytes that we write for a value: of those that may stand for it, these.
-use Prim.Native.Nat.{ℕ, suc, _<_, _^_}
+use Prim.Native.Nat.{ℕ, suc, _+_, _<_, _^_}
 use mathlib.Core.List.{List, [], _∷_, _++_}
 use lib.ListN.{length}
 use Rattle.numbers.specs.Choose.{pick}
@@ -54,3 +54,25 @@ unfoldable mutual
   pub FitsOf : Row → Type 0
   FitsOf done = Unit {0}
   FitsOf (value v vs) = Fits v × FitsOf vs
+
+-- how many bytes we write for it
+unfoldable mutual
+  pub room : Value → ℕ
+  room (number n) = 9
+  room (boolean t) = 2
+  room (string t) = 3 + length t
+  room (object ps) = 1 + roomIn ps
+  room null = 1
+  room undefined = 1
+  room (array ps) = 5 + roomIn ps
+  room (strict vs) = 5 + roomOf vs
+  room (date n z) = 11
+  room (long t) = 5 + length t
+
+  pub roomIn : Properties → ℕ
+  roomIn none = 3
+  roomIn (property t v ps) = 2 + length t + (room v + roomIn ps)
+
+  pub roomOf : Row → ℕ
+  roomOf done = 0
+  roomOf (value v vs) = room v + roomOf vs
