@@ -4,9 +4,10 @@
 //! comparisons, on the machine's floating point. The lines before `vectors` are typed from document 01.
 //! Only a NaN is written by hand, since the cast leaves its bits open: 7FC00000 and 7FF8000000000000.
 //!
-//!     rustc -O vectors/numbers.rs -o target/make-numbers
-//!     target/make-numbers in  > crates/pins/stdin
-//!     target/make-numbers out > crates/pins/stdout
+//!     make-numbers in     what goes into `pins`, a line a double
+//!     make-numbers out    what has to come out of it
+//!
+//! `vectors/make` builds it and writes both files.
 
 const PINS: &str = r#"4294967296.0 as u32 gives 4294967295
 0.9 as u32 gives 0
@@ -145,7 +146,7 @@ fn main() {
     match std::env::args().nth(1).as_deref() {
         Some("in") => {
             for b in vectors {
-                println!("{b:016X}");
+                println!("d {b:016X}");
             }
         }
         Some("out") => {

@@ -1,8 +1,11 @@
 // Runs the number pins of the bench plate, a few fields, words and names, and then the vectors on standard input.
-// A vector is a line of 16 hexadecimal digits, a double's bits.
+// A vector is a line: `d` and a double's 16 hexadecimal digits; or `b`, an AMF0 body's length in four digits, and the body's.
+mod body;
+mod digits;
 mod show;
 mod vector;
 
+use libc::STDIN_FILENO;
 use show::say;
 use show::show_command;
 use show::show_double;
@@ -53,6 +56,29 @@ fn name_pins() {
     show_name(&key);
 }
 
+// Whether there was another whole line.
+fn next() -> bool {
+    let mut kind = [0u8; 2];
+    let n = io::read_full(STDIN_FILENO, &mut kind);
+    if n < 2 {
+        return false;
+    }
+    let k = kind[0];
+    match k {
+        b'd' => vector::run_double(),
+        b'b' => body::run_body(),
+        _ => false,
+    }
+}
+
+// A proved loop has to end: the count is one that no file of vectors reaches.
+fn run_all() {
+    let mut turns: u32 = 4294967295;
+    while turns > 0 && next() {
+        turns -= 1;
+    }
+}
+
 fn main() {
     number_pins();
     show_fields(0x0102030405060708);
@@ -60,5 +86,5 @@ fn main() {
     word_pins();
     name_pins();
     say(b"vectors\n");
-    vector::run_all();
+    run_all();
 }

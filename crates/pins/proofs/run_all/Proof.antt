@@ -1,7 +1,7 @@
 use Prim.Native.Nat.{_≤_}
 use borrow.Author.Needs.{needs}
-use Rattle.pins.proofs.vector.run_all.Statement.{statement}
-use Rattle.pins.proofs.vector.run_all.Tie as tie
+use Rattle.pins.proofs.run_all.Statement.{statement}
+use Rattle.pins.proofs.run_all.Tie as tie
 
 abbrev Inv-loop : tie.InvT-loop
 Inv-loop turns₀ turns = turns ≤ turns₀
