@@ -296,6 +296,23 @@ fn markers(all: &mut Vec<Bytes>) {
     }
     // and here the last byte is of the eighth one's count
     all.push(vec![0x0A; 40]);
+    // what Adobe's AMF0 has and document 01 leaves out, each in its whole form: movie clip, reference,
+    // unsupported, record set, XML, typed object, AMF3; none of them is a container
+    let left_out: [&[u8]; 7] = [
+        &[0x04],
+        &[0x07, 0, 0],
+        &[0x0D],
+        &[0x0E],
+        &[0x0F, 0, 0, 0, 4, b'<', b'x', b'/', b'>'],
+        &[0x10, 0, 1, b'C', 0, 1, b'a', 0x05, 0, 0, 9],
+        &[0x11, 0x06, 0x03, b'x'],
+    ];
+    for v in left_out {
+        all.push(object(&[pair("a", v)]));
+        all.push(nest(&[0x03; 8], v));
+    }
+    all.push(left_out[4].to_vec());
+    all.push(left_out[5].to_vec());
 }
 
 fn connect() -> Bytes {
@@ -440,8 +457,9 @@ fn names(all: &mut Vec<Bytes>) {
         all.push(marked(0x03, &name(long_name.as_bytes())));
         all.push(marked(0x03, &name(long_name.as_bytes())[..n + 1]));
     }
-    // names that end the body, and one that claims more than any body has
+    // a name as long as a body can hold, and names that claim more than there is
     all.push(object(&[pair(&"n".repeat(4000), NULL), pair("a", UNDEFINED)]));
+    all.push([&[0x03, 0x80, 0x01, b'a'], NULL, END].concat());
     all.push([&[0x03, 0xFF, 0xFF], &[0x61; 30][..]].concat());
     all.push([&[0x08, 0, 0, 0, 1, 0xFF, 0xFF], &[0x61; 30][..], END].concat());
     all.push([&[0x03, 0xFF, 0xFF], &[0x05; 4000][..]].concat());
@@ -496,6 +514,11 @@ fn containers(all: &mut Vec<Bytes>) {
     all.push(strict(u32::MAX, &[]).repeat(8));
     all.push(strict(u32::MAX, &[]).repeat(9));
     all.push(strict(u32::MAX, &vec![strict(0, &[]); 800]));
+    // a count that the body cannot hold is no fault where it stands: the ninth container comes first
+    all.push(strict(u32::MAX, &[nest(&[0x03; 8], NULL)]));
+    all.push(strict(2000, &[nest(&[0x08; 7], NULL), nest(&[0x08; 8], NULL)]));
+    // a count whose highest bit alone makes it untrue
+    all.push(strict(0x8000_0001, &[null()]));
     all.push([strict(u32::MAX, &[]).repeat(8), vec![0x05; 4000]].concat());
 }
 
@@ -517,7 +540,8 @@ fn texts(all: &mut Vec<Bytes>) {
     all.push([&[0x02, 0, 1][..], b"ab"].concat());
     all.push([&[0x02, 0, 1][..], b"a", NULL].concat());
     all.push([&[0x02, 0xFF, 0xFF], &[0x05; 100][..]].concat());
-    for claimed in [4, 6, 256 + 5, 65536 + 5, 0x0100_0005, 0x7FFF_FFFF, 0x8000_0000, 0xFFFF_FFF0, u32::MAX] {
+    all.push([&[0x02, 0x80, 0x02][..], b"ab"].concat());
+    for claimed in [4, 6, 256 + 5, 65536 + 5, 0x0100_0005, 0x8000_0005, 0x7FFF_FFFF, 0xFFFF_FFF0, u32::MAX] {
         all.push(long_claiming(claimed, b"bytes"));
     }
     all.push(long_claiming(4, &[b'l', b'o', b'n', b'g', 0x06]));
@@ -530,7 +554,8 @@ fn texts(all: &mut Vec<Bytes>) {
 }
 
 fn plain_values(all: &mut Vec<Bytes>) {
-    for v in [date(0.0, 0), date(1.7e12, -60), date(f64::NAN, 1), marked(0x0B, &[0x09; 10])] {
+    let nan = f64::from_bits(0x7FF8_0000_0000_0000);
+    for v in [date(0.0, 0), date(1.7e12, -60), date(nan, 1), marked(0x0B, &[0x09; 10])] {
         all.push(v.clone());
         all.push([&v[..], NULL].concat());
         all.push(object(&[pair("a", v)]));

@@ -9,11 +9,10 @@ use borrow.Author.Tests.{le-leb, lt-leb}
 use Rattle.numbers.specs.Choose.{pick}
 use Rattle.amf0.specs.Bodies.{checked, placed, placeOf, row, rowF, verdict}
 use Rattle.amf0.specs.Skipping.{afterValue, skipV, valuesF}
-use Rattle.amf0.specs.declared.body.Checked.{Checked}
 use Rattle.amf0.specs.declared.body.Checked.the-variants.{Whole}
 use Rattle.amf0.specs.declared.skip.Skip.{Skip}
-use Rattle.amf0.specs.declared.skip.Skip.the-variants.{Next, Bad, Deep}
-use Rattle.amf0.proofs.SkippingLaws.{Lands, Moves, Past, after-same, landed, moves}
+use Rattle.amf0.specs.declared.skip.Skip.the-variants.{Next}
+use Rattle.amf0.proofs.SkippingLaws.{Moves, Past, after-same, landed, moves}
 
 module _ (s : List ℕ) (f : ℕ → Skip) (m : Moves s f) where
   row-at-end : (k i : ℕ) → length s ≤ i → Next i ≡ rowF f s k i

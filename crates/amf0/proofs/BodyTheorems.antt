@@ -1,16 +1,14 @@
 -- A body is accepted exactly when it is a row of values of the grammar that nest at most eight deep.
-use mathlib.Core.Path.{_≡_, refl, sym, ap, _∙_, subst}
-use Prim.Native.Nat.{ℕ, zero, suc, _+_, _≤_, _<_, max}
+use mathlib.Core.Path.{_≡_, refl, sym, ap, _∙_}
+use Prim.Native.Nat.{ℕ, zero, suc, _+_, _≤_}
 use native.Mathlib.Omega.{arith}
-use mathlib.Core.List.{List, [], _∷_, _++_, append-assoc, append-nil}
-use lib.ListN.{length, drop, drop-of-length-le, length-append, length-drop}
-use lib.Dec.{leb}
+use mathlib.Core.List.{List, _++_}
+use lib.ListN.{length, drop, drop-of-length-le, length-drop}
 use Rattle.numbers.proofs.ChooseLaws.{pick-le}
 use Rattle.numbers.proofs.PlaceLaws.{Bytes, rest-at}
 use Rattle.amf0.specs.Bodies.{checked, row, rowF, verdict}
-use Rattle.amf0.specs.Grammar.{Row, Spells, SpellsRow, depth, depthOf, done, value}
+use Rattle.amf0.specs.Grammar.{Row, SpellsRow, depthOf, done, value}
 use Rattle.amf0.specs.Skipping.{afterValue, skipV}
-use Rattle.amf0.specs.declared.body.Checked.{Checked}
 use Rattle.amf0.specs.declared.body.Checked.the-variants.{Whole}
 use Rattle.amf0.specs.declared.skip.Skip.{Skip}
 use Rattle.amf0.specs.declared.skip.Skip.the-variants.{Next, Bad, Deep}

@@ -1,18 +1,17 @@
 -- What the grammar spells, the reader accepts: bytes that stand for a value that nests at most `left` deep are skipped, to their end.
 use mathlib.Core.Path.{_≡_, refl, sym, ap, _∙_, subst}
-use Prim.Native.Nat.{ℕ, zero, suc, _+_, _-_, _*_, _^_, _≤_, _<_, max}
-use native.Mathlib.Numerals.{sub-one}
+use Prim.Native.Nat.{ℕ, zero, suc, _+_, _-_, _*_, _^_, _≤_, _<_}
 use native.Mathlib.Omega.{arith}
 use mathlib.Core.Bool.{not}
 use mathlib.Core.List.{List, [], _∷_, _++_, append-assoc}
-use lib.ListN.{length, take, drop, getD, length-append}
+use lib.ListN.{length, take, drop, length-append}
 use lib.Seq.{take-append-seam}
 use lib.Dec.{eqb, lit≤}
 use lib.Ieee.{binary64, ofBits}
 use borrow.Author.Tests.{le-leb}
 use Rattle.numbers.specs.Fields.{bytesOf, fieldAt}
 use Rattle.numbers.proofs.FieldsLaws.{length-bytesOf}
-use Rattle.numbers.proofs.PlaceLaws.{byte-in, byte-is, byte-next, field-is, length-at, rest-at, room-at}
+use Rattle.numbers.proofs.PlaceLaws.{byte-in, byte-is, byte-next, field-is, length-at, rest-at}
 use Rattle.amf0.specs.Grammar.{Properties, Row, Spells, SpellsProperties, SpellsRow, Value, array, boolean, count, counted, date, depth, depthIn, depthOf, done, long, none, null, number, object, property, strict, string, undefined, value}
 use Rattle.amf0.specs.Reading.{byMarker, extent, extentAt, held, nameAt, readAt, textAt}
 use Rattle.amf0.specs.Skipping.{afterName, afterValue, opened, pairs, skipV, valuesF}
@@ -20,13 +19,11 @@ use Rattle.amf0.specs.declared.skip.Skip.{Skip}
 use Rattle.amf0.specs.declared.skip.Skip.the-variants.{Next}
 use Rattle.amf0.specs.declared.value.Amf0Value.{Amf0Value}
 use Rattle.amf0.specs.declared.value.Amf0Value.the-variants.{Number, Boolean, Text, Object, Null, Undefined, EcmaArray, StrictArray, Date, LongText}
-use Rattle.amf0.specs.declared.value.Read.{Read}
-use Rattle.amf0.specs.declared.value.Extent.{Extent}
-use Rattle.amf0.specs.declared.value.Extent.the-variants.{Ends, Pairs, CountedPairs, Values}
+use Rattle.amf0.specs.declared.value.Extent.the-variants.{Ends}
 use Rattle.amf0.specs.declared.value.NameAt.{NameAt}
 use Rattle.amf0.specs.declared.value.NameAt.the-variants.{End, Value as ValueAt}
 use Rattle.amf0.proofs.ReadingLaws.{extent-read, held-yes, name-end, name-value, read-in}
-use Rattle.amf0.proofs.SkippingLaws.{moves, pairs-step, skip-array, skip-ends, skip-open, skip-strict}
+use Rattle.amf0.proofs.SkippingLaws.{moves, pairs-step, skip-ends}
 
 -- ---- what stands behind a marker
 module _ (s c : List ℕ) (at m : ℕ) (e : drop at s ≡ m ∷ c) where

@@ -1,10 +1,10 @@
 -- Refusal 3 is given exactly: bytes that stand for a value that nests deeper than they may are refused as too deep, and not as bad.
-use mathlib.Core.Path.{_≡_, refl, sym, ap, _∙_, subst}
+use mathlib.Core.Path.{_≡_, refl, ap, _∙_}
 use mathlib.Core.Logic.{inl, inr}
-use Prim.Native.Nat.{ℕ, zero, suc, _+_, _^_, _≤_, _<_, max}
+use Prim.Native.Nat.{ℕ, zero, suc, _+_, _<_}
 use native.Mathlib.Omega.{arith}
-use mathlib.Core.List.{List, [], _∷_, _++_, append-assoc}
-use lib.ListN.{length, drop, length-drop}
+use mathlib.Core.List.{List, _∷_, _++_, append-assoc}
+use lib.ListN.{length, drop}
 use lib.Dec.{lit≤}
 use borrow.Author.Tests.{le-leb}
 use Rattle.numbers.specs.Fields.{bytesOf, fieldAt}
@@ -12,9 +12,8 @@ use Rattle.numbers.proofs.PatternLaws.{le-or-lt}
 use Rattle.numbers.proofs.PlaceLaws.{byte-in, byte-next, field-is, rest-at}
 use Rattle.amf0.specs.Bodies.{checked, row, verdict}
 use Rattle.amf0.specs.Grammar.{Properties, Row, Spells, SpellsProperties, SpellsRow, Value, array, boolean, count, counted, date, depth, depthIn, depthOf, done, long, none, null, number, object, property, strict, string, undefined, value}
-use Rattle.amf0.specs.Reading.{byMarker, extent, extentAt, held}
-use Rattle.amf0.specs.Skipping.{afterValue, opened, pairs, shut, skipV, valuesF}
-use Rattle.amf0.specs.declared.body.Checked.{Checked}
+use Rattle.amf0.specs.Reading.{byMarker, extent, held}
+use Rattle.amf0.specs.Skipping.{afterValue, pairs, shut, skipV, valuesF}
 use Rattle.amf0.specs.declared.body.Checked.the-variants.{Deep as DeepBody}
 use Rattle.amf0.specs.declared.skip.Skip.{Skip}
 use Rattle.amf0.specs.declared.skip.Skip.the-variants.{Next, Bad, Deep}

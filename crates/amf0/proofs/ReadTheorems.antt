@@ -1,6 +1,6 @@
 -- The values of an accepted body are those that the reading functions give.
 use mathlib.Core.Path.{_≡_, refl, sym, ap, _∙_, subst}
-use Prim.Native.Nat.{ℕ, zero, suc, _+_, _-_, _*_, _^_, _≤_, _<_, max}
+use Prim.Native.Nat.{ℕ, zero, suc, _+_, _*_, _^_, _≤_, _<_}
 use native.Mathlib.Omega.{arith}
 use mathlib.Core.Bool.{Bool, true, false, not}
 use mathlib.Core.List.{List, [], _∷_, _++_, append-assoc}
@@ -15,8 +15,8 @@ use Rattle.numbers.proofs.PlaceLaws.{byte-is, byte-next, field-is, length-at, r
 use Rattle.text.specs.Words.{same}
 use Rattle.amf0.specs.Bodies.{placed, placeOf}
 use Rattle.amf0.specs.Grammar.{Properties, Row, Spells, SpellsProperties, SpellsRow, Value, array, boolean, count, counted, date, depth, depthIn, depthOf, done, long, none, null, number, object, property, strict, string, undefined, value}
-use Rattle.amf0.specs.Properties.{better, inside, last, lastProperty, onValue}
-use Rattle.amf0.specs.Reading.{byMarker, extent, extentAt, held, nameAt, readAt, textAt}
+use Rattle.amf0.specs.Properties.{better, inside, last, lastProperty}
+use Rattle.amf0.specs.Reading.{byMarker, extentAt, held, readAt, textAt}
 use Rattle.amf0.specs.Showing.{Content, Finds, Maybe, Standing, just, lastOf, nothing, nth, shown}
 use Rattle.amf0.specs.Skipping.{afterValue, skipV, valuesF}
 use Rattle.amf0.specs.declared.property.Found.{Found}
@@ -28,7 +28,6 @@ use Rattle.amf0.specs.declared.value.Amf0Value.the-variants.{Number, Boo
 use Rattle.amf0.specs.declared.value.Read.{Read}
 use Rattle.amf0.specs.declared.value.Extent.{Extent}
 use Rattle.amf0.specs.declared.value.Extent.the-variants.{Pairs}
-use Rattle.amf0.specs.declared.value.NameAt.the-variants.{End, Value as ValueAt}
 use Rattle.amf0.proofs.BodiesLaws.{next-value}
 use Rattle.amf0.proofs.CompleteLaws.{complete, extent-is, name-is, name-text, none-is, pairs-at, read-is, text-is, value-at}
 use Rattle.amf0.proofs.PropertyLaws.{last-end, last-value}

@@ -1,5 +1,5 @@
 -- The cases of what stands at a place, each from the tests that lead to it; and what can stand there at all.
-use mathlib.Core.Path.{_≡_, refl, sym, ap, _∙_}
+use mathlib.Core.Path.{_≡_, sym, ap, _∙_}
 use Prim.Native.Nat.{ℕ, _+_, _≤_, _<_}
 use native.Mathlib.Omega.{arith}
 use mathlib.Core.Bool.{not}
@@ -12,10 +12,9 @@ use Rattle.numbers.specs.Fields.{fieldAt}
 use Rattle.numbers.proofs.ChooseLaws.{pick-eq, pick-le, pick-lt}
 use Rattle.amf0.specs.Reading.{byMarker, extent, extentAt, held, nameAt, nothing, readAt, textAt}
 use Rattle.amf0.specs.declared.value.Amf0Value.{Amf0Value}
-use Rattle.amf0.specs.declared.value.Amf0Value.the-variants.{Number, Boolean, Text, Object, Null, Undefined, EcmaArray, StrictArray, Date, LongText, NoValue}
+use Rattle.amf0.specs.declared.value.Amf0Value.the-variants.{Number, Boolean, Text, Object, Null, Undefined, EcmaArray, StrictArray, Date, LongText}
 use Rattle.amf0.specs.declared.value.Read.{Read}
 use Rattle.amf0.specs.declared.value.Extent.{Extent}
-use Rattle.amf0.specs.declared.value.Extent.the-variants.{Ends, Pairs, CountedPairs, Values, Wrong}
 use Rattle.amf0.specs.declared.value.NameAt.{NameAt}
 use Rattle.amf0.specs.declared.value.NameAt.the-variants.{End, Value, Cut}
 

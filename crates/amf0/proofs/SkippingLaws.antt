@@ -9,7 +9,7 @@ use borrow.Author.Tests.{le-leb, lt-leb}
 use Rattle.numbers.specs.Fields.{fieldAt}
 use Rattle.numbers.proofs.ChooseLaws.{pick-le}
 use Rattle.amf0.specs.Reading.{extent, extentAt, nameAt, nothing, readAt}
-use Rattle.amf0.specs.Skipping.{afterName, afterValue, array, opened, pairs, pairsF, shut, skipV, strict, valuesF}
+use Rattle.amf0.specs.Skipping.{afterName, afterValue, opened, pairs, pairsF, shut, skipV, valuesF}
 use Rattle.amf0.specs.declared.skip.Skip.{Skip}
 use Rattle.amf0.specs.declared.skip.Skip.the-variants.{Next, Bad, Deep}
 use Rattle.amf0.specs.declared.value.Amf0Value.{Amf0Value}

@@ -1,23 +1,20 @@
 -- What the reader accepts, the grammar spells: bytes that are skipped stand for a value, which nests at most `left` deep.
 use mathlib.Core.Path.{_≡_, refl, sym, ap, _∙_, subst}
-use Prim.Native.Nat.{ℕ, zero, suc, _+_, _-_, _*_, _^_, _≤_, _<_, max}
+use Prim.Native.Nat.{ℕ, zero, suc, _+_, _*_, _^_, _≤_, _<_}
 use native.Mathlib.Omega.{arith}
 use mathlib.Core.Bool.{not}
 use mathlib.Core.List.{List, [], _∷_, _++_, append-assoc}
 use lib.ListN.{length, drop, getD, length-append}
 use lib.Dec.{eqb}
-use lib.Ieee.{binary64, ofBits}
 use Rattle.numbers.specs.Fields.{bytesOf, fieldAt}
 use Rattle.numbers.proofs.ChooseLaws.{pick-le}
 use Rattle.numbers.proofs.FieldsLaws.{length-bytesOf}
 use Rattle.numbers.proofs.PlaceLaws.{Bytes, cut-byte, cut-field, cut-text, field-lt, rest-at}
 use Rattle.amf0.specs.Grammar.{Properties, Row, Spells, SpellsProperties, SpellsRow, Value, array, boolean, count, counted, date, depth, depthIn, depthOf, done, long, none, null, number, object, property, strict, string, undefined, value}
-use Rattle.amf0.specs.Reading.{extent, extentAt, nameAt, nothing, readAt}
-use Rattle.amf0.specs.Skipping.{afterName, afterValue, array as arrayF, opened, pairs, pairsF, shut, skipV, strict as strictF, valuesF}
+use Rattle.amf0.specs.Reading.{extent, extentAt}
+use Rattle.amf0.specs.Skipping.{afterName, opened, pairs, pairsF, shut, skipV, valuesF}
 use Rattle.amf0.specs.declared.skip.Skip.{Skip}
-use Rattle.amf0.specs.declared.skip.Skip.the-variants.{Next, Bad, Deep}
-use Rattle.amf0.specs.declared.value.Amf0Value.{Amf0Value}
-use Rattle.amf0.specs.declared.value.Amf0Value.the-variants.{Number, Boolean, Text, Object, Null, Undefined, EcmaArray, StrictArray, Date, LongText}
+use Rattle.amf0.specs.declared.skip.Skip.the-variants.{Next, Bad}
 use Rattle.amf0.specs.declared.value.Read.{Read}
 use Rattle.amf0.specs.declared.value.Extent.{Extent}
 use Rattle.amf0.specs.declared.value.Extent.the-variants.{Ends, Pairs, CountedPairs, Values, Wrong}

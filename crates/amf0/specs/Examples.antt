@@ -1,8 +1,8 @@
 -- Worked examples, computed: one table and one claim.
 use mathlib.Core.Path.{_≡_, refl}
 use Prim.Native.Nat.{ℕ, zero, suc}
-use mathlib.Core.Bool.{Bool, true, false}
-use mathlib.Core.List.{List, [], _∷_, _++_}
+use mathlib.Core.Bool.{true, false}
+use mathlib.Core.List.{List, [], _∷_}
 use lib.ListN.{length, take}
 use Rattle.numbers.specs.Fields.{bytesOf, fieldAt}
 use Rattle.text.specs.Words.{same, text}

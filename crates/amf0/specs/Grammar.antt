@@ -1,6 +1,6 @@
 -- The grammar of AMF0 as document 01 lists it: values, and what bytes stand for a value. Nothing here reads or knows a place.
 use mathlib.Core.Path.{_≡_}
-use Prim.Native.Nat.{ℕ, zero, suc, _<_, _^_, max}
+use Prim.Native.Nat.{ℕ, suc, _<_, _^_, max}
 use mathlib.Core.Bool.{Bool, not}
 use mathlib.Core.List.{List, [], _∷_, _++_}
 use lib.ListN.{length}

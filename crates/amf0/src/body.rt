@@ -1,4 +1,5 @@
 // A whole body: checked from end to end, and its values by their number.
+use crate::skip::NESTED;
 use crate::skip::Skip;
 use crate::skip::skip_value;
 ghost use mathlib.Core.Path.{_≡_};
@@ -16,7 +17,7 @@ pub fn check_body(body: &[u8]) -> Checked
 {
     let mut at = 0;
     while at < body.len() {
-        match skip_value(body, at, 8) {
+        match skip_value(body, at, NESTED) {
             Skip::Next(a) => at = a,
             Skip::Bad => return Checked::Bad,
             Skip::Deep => return Checked::Deep,
@@ -32,7 +33,7 @@ pub fn place_of(body: &[u8], n: usize) -> usize
     let mut at = 0;
     let mut k = n;
     while 0 < k {
-        match skip_value(body, at, 8) {
+        match skip_value(body, at, NESTED) {
             Skip::Next(a) => at = a,
             Skip::Bad => return body.len(),
             Skip::Deep => return body.len(),

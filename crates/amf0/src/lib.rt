@@ -13,6 +13,7 @@ pub use body::check_body;
 pub use body::place_of;
 pub use property::Found;
 pub use property::last_property;
+pub use skip::NESTED;
 pub use skip::Skip;
 pub use skip::skip_value;
 pub use value::Amf0Value;

@@ -1,4 +1,5 @@
 // The last property of a name in an object.
+use crate::skip::NESTED;
 use crate::skip::Skip;
 use crate::skip::skip_value;
 use crate::value::Extent;
@@ -43,7 +44,7 @@ fn last_pair(body: &[u8], word: &[u8], at: usize) -> Found
             NameAt::Cut => return best,
             NameAt::Value(v) => {
                 let b = better_found(body, word, i, v, best);
-                match skip_value(body, v, 8) {
+                match skip_value(body, v, NESTED) {
                     Skip::Next(a) => {
                         i = a;
                         best = b;

@@ -9,6 +9,9 @@ ghost use Prim.Native.Nat.{_≤_};
 ghost use lib.ListN.{length};
 ghost use Rattle.amf0.specs.Skipping.{pairs, skipV, valuesF};
 
+// How deep containers may nest: one inside eight others is refused.
+pub const NESTED: usize = 8;
+
 // The next place; or not whole AMF0 (refusal 2); or a container inside eight others (refusal 3).
 pub enum Skip {
     Next(usize),

@@ -6,7 +6,7 @@ use lib.Pow.{pow-add, pow-mono, shr-lt}
 use native.Mathlib.Numerals.{add-one, sub-one}
 use native.Mathlib.Omega.{arith}
 use mathlib.Core.List.{List, [], _∷_, _++_, append-assoc, append-nil}
-use lib.ListN.{length, take, drop, set, getD, length-append, length-drop, length-set, drop-of-length-le, take-append-drop, List·getD-eq-default}
+use lib.ListN.{length, take, drop, set, getD, length-append, length-drop, drop-of-length-le, take-append-drop, List·getD-eq-default}
 use lib.Seq.{length-take-le, set-split, take-at, drop-at, append-snoc, drop-drop, take-suc, take-all, getD-append-add, getD-at}
 use Rattle.numbers.specs.Fields.{bytesOf, fieldAt, front, over}
 

@@ -1,13 +1,13 @@
 -- What a pattern stands for, once for both formats: a NaN, an infinity, or its digits times a power of two.
 use mathlib.Core.Path.{_≡_, refl, sym, ap, _∙_, subst}
 use mathlib.Core.Logic.{_⊎_, inl, inr}
-use Prim.Native.Nat.{ℕ, zero, suc, _+_, _-_, _*_, _/_, _%_, _^_, _≤_, _<_}
+use Prim.Native.Nat.{ℕ, zero, suc, _+_, _-_, _*_, _%_, _^_, _≤_, _<_}
 use native.Mathlib.Nat.{mod-lt, zero-add, div-lt-iff-lt-mul, mod-eq-sub-mod, mod-eq-of-lt, sub-lt-left-of-lt-add, add-sub-of-le}
 use native.Mathlib.Omega.{arith}
-use mathlib.Core.Bool.{Bool, true, false, not, cond}
-use lib.Dec.{T, leb, ltb, eqb, leb→le, nleb→lt, eqb·suc-zero}
+use mathlib.Core.Bool.{Bool, true, false, not}
+use lib.Dec.{T, leb, eqb, leb→le, nleb→lt, eqb·suc-zero}
 use lib.Pow.{pow-pos}
-use lib.Ieee.{Float, nan, inf, fin, Format, prec, emax, low, up, down, odd, round, hid, ones, top, ofFields, ofBits, toBits, isNan, nanBits}
+use lib.Ieee.{Float, nan, inf, fin, Format, prec, low, up, down, round, hid, ones, top, ofFields, ofBits, isNan, nanBits}
 use lib.Ieee.Bits.{nanBits-above, nanBits-is, ofBits-toBits}
 use lib.Ieee.Fits.{down-pos, inf-fits}
 use lib.Ieee.Exact.{HasValue, odd-sign}

@@ -1,20 +1,19 @@
 -- `singleOf`, which is about bit fields, is IEEE 754's conversion of a double to a single as lib.Ieee has it.
-use mathlib.Core.Path.{_≡_, refl, sym, ap, _∙_, subst}
-use mathlib.Core.Logic.{_⊎_, inl, inr}
-use Prim.Native.Nat.{ℕ, zero, suc, _+_, _-_, _*_, _/_, _%_, _^_, _≤_, _<_, min}
-use native.Mathlib.Nat.{le-trans, le-of-eq, lt-of-lt-of-le, lt-of-le-of-lt, eq-or-lt-of-le, mul-assoc, mul-le-mul-right, mul-pos, div-lt-iff-lt-mul, le-div-iff-mul-le, mod-lt}
+use mathlib.Core.Path.{_≡_, refl, sym, ap, _∙_}
+use mathlib.Core.Logic.{inl, inr}
+use Prim.Native.Nat.{ℕ, suc, _+_, _-_, _*_, _/_, _%_, _^_, _≤_, _<_, min}
+use native.Mathlib.Nat.{le-trans, le-of-eq, lt-of-lt-of-le, eq-or-lt-of-le, mul-assoc, mul-le-mul-right, mul-pos, div-lt-iff-lt-mul, le-div-iff-mul-le}
 use native.Mathlib.Omega.{arith}
-use mathlib.Core.Bool.{Bool, true, false, not, cond}
-use lib.Dec.{T, leb, ltb, eqb, lit≤}
+use mathlib.Core.Bool.{Bool, cond}
+use lib.Dec.{leb, lit≤}
 use lib.Pow.{pow-add, pow-pos, pow-mono, shl-lt}
-use lib.Ieee.{Float, nan, inf, fin, Format, binary32, binary64, prec, emax, low, size, round, hid, ones, top, ofBits, toBits}
+use lib.Ieee.{Float, nan, inf, binary32, binary64, size, ofBits, toBits}
 use lib.Ieee.Digits.{size-le}
 use lib.Ieee.Exact.{HasValue}
 use lib.Ieee.Nearest.{closest, closest-same}
 use lib.Ieee.Order.{drop}
 use borrow.Author.Tests.{lt-ltb, le-ltb, le-leb, lt-leb}
-use Rattle.numbers.specs.Choose.{pick}
-use Rattle.numbers.specs.Single.{field, places, digits, convert, recode, single, singleOf}
+use Rattle.numbers.specs.Single.{places, digits, convert, recode, single, singleOf}
 use Rattle.numbers.proofs.RoundingLaws.{size-exact, round-bits}
 use Rattle.numbers.proofs.PatternLaws.{le-or-lt, digits-lt, digits-ge, is-nan, is-inf, is-finite, convert-val}
 

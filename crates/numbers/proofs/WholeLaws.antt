@@ -1,12 +1,12 @@
 -- `wholeOf`, document 01's sentence, is lib.Ieee's `toUnsigned 32`; and both are what the code finds by the order of the patterns.
-use mathlib.Core.Path.{_≡_, refl, sym, ap, _∙_, subst}
-use mathlib.Core.Logic.{_⊎_, inl, inr}
+use mathlib.Core.Path.{_≡_, refl, sym, ap, _∙_}
+use mathlib.Core.Logic.{inl, inr}
 use Prim.Native.Nat.{ℕ, _+_, _-_, _*_, _/_, _%_, _^_, _≤_, _<_, min}
 use native.Mathlib.Nat.{le-trans, le-of-eq, lt-of-lt-of-le, eq-or-lt-of-le, mul-assoc, mul-le-mul-right, div-eq-of-lt, le-div-iff-mul-le, div-lt-iff-lt-mul, div-one}
 use native.Mathlib.Omega.{arith}
 use mathlib.Core.Bool.{Bool, true, false, not, _&&_, _||_, cond}
 use lib.Dec.{T, leb, ltb, eqb, le→leb}
-use lib.IntN.{ℤ, pos}
+use lib.IntN.{pos}
 use lib.Pow.{pow-add, pow-pos, pow-mono, shl-lt, shr-lt, shr-shr}
 use lib.Ieee.{Float, nan, inf, fin, binary64, up, down, lt, eq, le, isNan, ofBits, ofInt, toUnsigned, inUnsigned, inFloat}
 use lib.Ieee.Back.{unsigned-back}
@@ -16,7 +16,7 @@ use lib.Ieee.Nearest.{div-same}
 use borrow.Author.Tests.{lt-ltb, le-ltb, le-leb, lt-leb, eq-eqb, ne-eqb}
 use Rattle.numbers.specs.Choose.{pick}
 use Rattle.numbers.specs.Single.{field, places, digits}
-use Rattle.numbers.specs.Whole.{cut, u32Of, wholeOf}
+use Rattle.numbers.specs.Whole.{u32Of, wholeOf}
 use Rattle.numbers.proofs.PatternLaws.{le-or-lt, digits-lt, digits-ge, is-nan, is-inf, is-finite}
 
 -- ---- the sentence and lib.Ieee's words

@@ -1,7 +1,7 @@
 -- A double as a single, and a single as a double.
 use Prim.Native.Nat.{ℕ, _+_, _-_, _*_, _/_, _%_, _^_, min}
 use lib.Dec.{ltb, eqb}
-use lib.Ieee.{Float, nan, inf, fin, Format, binary32, binary64, up, down, round, hid, top, ofBits, toBits}
+use lib.Ieee.{Float, nan, inf, fin, Format, binary64, up, down, round, hid, top, ofBits, toBits}
 use lib.Ieee.Nearest.{closest}
 use Rattle.numbers.specs.Choose.{pick}
 

@@ -1,6 +1,6 @@
 -- A double as a u32, and a u32 as a double.
 use Prim.Native.Nat.{ℕ, _*_, _/_}
-use mathlib.Core.Bool.{true, false}
+use mathlib.Core.Bool.{false}
 use lib.IntN.{pos}
 use lib.Ieee.{Float, nan, inf, fin, binary64, up, down, isNan, lt, le, ofBits, toBits, ofInt}
 use Rattle.numbers.specs.Choose.{pick}

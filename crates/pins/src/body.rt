@@ -85,18 +85,23 @@ fn write_property(body: &[u8], at: usize) {
     say(b"]");
 }
 
+fn write_one(body: &[u8], at: usize) {
+    say(b" ");
+    write_value(body, at);
+    if has_properties(body, at) {
+        write_property(body, at);
+    }
+}
+
 // The values one after the other, by their number.
 fn write_values(body: &[u8]) {
     let mut n = 0;
     while n < body.len() {
         let at = amf0::place_of(body, n);
-        if at < body.len() {
-            say(b" ");
-            write_value(body, at);
-            if has_properties(body, at) {
-                write_property(body, at);
-            }
+        if body.len() <= at {
+            return;
         }
+        write_one(body, at);
         n += 1;
     }
 }

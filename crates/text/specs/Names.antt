@@ -1,7 +1,7 @@
 -- Names: "`String` becomes a name of 128 bytes with its length."
 use Prim.Native.Nat.{ℕ}
 use mathlib.Core.Bool.{true, false}
-use mathlib.Core.List.{List, []}
+use mathlib.Core.List.{List}
 use lib.Dec.{ltb}
 use lib.ListN.{length, replicate, take}
 use Rattle.numbers.specs.Choose.{pick}

@@ -1,4 +1,3 @@
-use mathlib.Core.Path.{sym}
 use Rattle.numbers.specs.Fields.{bytesOf}
 use Rattle.amf0.specs.Writing.{encode}
 use borrow.Author.Needs.{needs}

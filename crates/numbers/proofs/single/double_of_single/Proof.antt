@@ -4,7 +4,6 @@ use Rattle.numbers.proofs.PatternLaws.{is-nan, no-nan}
 use lib.Ieee.{binary32, binary64, toBits}
 use native.Mathlib.Omega.{arith}
 use mathlib.Core.Path.{sym, ap, _∙_}
-use borrow.Author.Needs.{needs}
 use Rattle.numbers.proofs.single.double_of_single.Statement.{statement}
 use Rattle.numbers.proofs.single.double_of_single.Tie as tie
 

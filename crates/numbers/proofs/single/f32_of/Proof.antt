@@ -2,7 +2,7 @@ use Rattle.numbers.proofs.ExactLaws.{read-back}
 use Rattle.numbers.proofs.PatternLaws.{is-nan, no-nan}
 use lib.Ieee.{binary32, binary64, ofBits, div}
 use native.Mathlib.Omega.{arith}
-use mathlib.Core.Path.{_≡_, sym, _∙_}
+use mathlib.Core.Path.{sym, _∙_}
 use borrow.Author.Needs.{needs}
 use Rattle.numbers.proofs.single.f32_of.Statement.{statement}
 use Rattle.numbers.proofs.single.f32_of.Tie as tie

@@ -2,7 +2,7 @@ use Rattle.numbers.proofs.WholeLaws.{half-step, half-end}
 use borrow.Author.Needs.{needs}
 use native.Mathlib.Omega.{arith}
 use Prim.Native.Nat.{_/_, _^_}
-use mathlib.Core.Path.{_≡_, refl, sym, ap, _∙_}
+use mathlib.Core.Path.{_≡_, refl, _∙_}
 use Rattle.numbers.proofs.whole.halved.Statement.{statement}
 use Rattle.numbers.proofs.whole.halved.Tie as tie
 

@@ -3,65 +3,46 @@ use lib.ListN.{length-take}
 use borrow.Author.Needs.{needs}
 use Rattle.pins.proofs.body.run_body.Statement.{statement}
 use Rattle.pins.proofs.body.run_body.Tie as tie
-use Rattle.pins.proofs.body.run_body.Reads as reads
-use Rattle.pins.proofs.body.run_body.Lts as lts
-use Rattle.numbers.proofs.u16_at.Reads as u16-at-reads
-use Rattle.pins.proofs.body.write_body.Reads as write-body-reads
-use Rattle.pins.proofs.digits.read_bytes.Reads as read-bytes-reads
 
--- src/body.rt:119:19
 slice-aggregate-read-bytes : tie.Need-slice-aggregate-read-bytes
 slice-aggregate-read-bytes c = search needs
 
--- src/body.rt:119:8
 read-bytes-requires : tie.Need-read-bytes-requires
 read-bytes-requires c κs = search needs
 
--- src/body.rt:120:33
 slice-aggregate-u16-at : tie.Need-slice-aggregate-u16-at
 slice-aggregate-u16-at c = search needs
 
--- src/body.rt:120:17
 u16-at-requires : tie.Need-u16-at-requires
 u16-at-requires c κs = search needs
 
--- src/body.rt:120:17
 cast-n : tie.Need-cast-n
 cast-n c = search needs
 
--- src/body.rt:122:23
 slice-aggregate-read-bytes-2 : tie.Need-slice-aggregate-read-bytes-2
 slice-aggregate-read-bytes-2 c = search needs
 
--- src/body.rt:122:12
 read-bytes-requires-2 : tie.Need-read-bytes-requires-2
 read-bytes-requires-2 c κs = search needs
 
--- src/body.rt:124:28
 array-share-prefix-bytes : tie.Need-array-share-prefix-bytes
 array-share-prefix-bytes c = search needs
 
--- src/body.rt:124:28
 slice-aggregate-write-body : tie.Need-slice-aggregate-write-body
 slice-aggregate-write-body c = simp length-take (omega arith)
 
--- src/body.rt:124:17
 write-body-requires : tie.Need-write-body-requires
 write-body-requires c κs = search needs
 
--- src/body.rt:125:17
 returns : tie.Need-returns
 returns c = search needs
 
--- src/body.rt:117:1
 returns-2 : tie.Need-returns-2
 returns-2 c = search needs
 
--- src/body.rt:117:1
 returns-3 : tie.Need-returns-3
 returns-3 c = search needs
 
--- src/body.rt:117:1
 returns-4 : tie.Need-returns-4
 returns-4 c = search needs
 

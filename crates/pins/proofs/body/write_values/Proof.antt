@@ -5,10 +5,10 @@ use Rattle.pins.proofs.body.write_values.Statement.{statement}
 use Rattle.pins.proofs.body.write_values.Tie as tie
 
 abbrev Inv-loop : tie.InvT-loop
-Inv-loop body n₀ t4 n = n ≤ length body
+Inv-loop body n₀ n = n ≤ length body
 
 abbrev μ-loop : tie.MeasureT-loop
-μ-loop body n₀ t4 n = length body - n
+μ-loop body n₀ n = length body - n
 
 pub write-values-spec : {M : Type 1} → statement M
 write-values-spec =
@@ -19,9 +19,6 @@ write-values-spec =
     (λ c. search needs)
     (λ c κs. search needs)
     (λ c. search needs)
-    (λ c κs. search needs)
-    (λ c κs. search needs)
-    (λ c κs. search needs)
     (λ c κs. search needs)
     (λ c. search needs)
     (λ c. search needs)
