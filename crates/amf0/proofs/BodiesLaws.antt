@@ -7,12 +7,12 @@ use lib.ListN.{length}
 use lib.Dec.{leb}
 use borrow.Author.Tests.{le-leb, lt-leb}
 use Rattle.numbers.specs.Choose.{pick}
-use Rattle.amf0.specs.Bodies.{checked, placed, placeOf, row, rowF, verdict}
+use Rattle.amf0.specs.Bodies.{checked, placeAfter, placed, placeOf, row, rowF, verdict}
 use Rattle.amf0.specs.Skipping.{afterValue, skipV, valuesF}
 use Rattle.amf0.specs.declared.body.Checked.the-variants.{Whole}
 use Rattle.amf0.specs.declared.skip.Skip.{Skip}
-use Rattle.amf0.specs.declared.skip.Skip.the-variants.{Next}
-use Rattle.amf0.proofs.SkippingLaws.{Moves, Past, after-same, landed, moves}
+use Rattle.amf0.specs.declared.skip.Skip.the-variants.{Next, Bad, Deep}
+use Rattle.amf0.proofs.SkippingLaws.{Moves, Past, after-same, landed, moves, skip-past}
 
 module _ (s : List ℕ) (f : ℕ → Skip) (m : Moves s f) where
   row-at-end : (k i : ℕ) → length s ≤ i → Next i ≡ rowF f s k i
@@ -54,3 +54,39 @@ next-value s i a e = landed (Past s i) (skipV s 8 i) a (moves s 8 i) e
 pub place-by : (s : List ℕ) (n : ℕ) (r : Skip) → r ≡ valuesF (skipV s 8) n 0 → placed r (length s) ≡ placeOf s n
 unfolding placeOf
 place-by s n r e = ap (λ (x : Skip). placed x (length s)) e
+
+pub after-by : (s : List ℕ) (at : ℕ) (r : Skip) → skipV s 8 at ≡ r → placed r (length s) ≡ placeAfter s at
+unfolding placeAfter
+after-by s at r e = ap (λ (x : Skip). placed x (length s)) (sym e)
+
+-- ---- the cursor: the (n + 1)-th value begins after the n-th
+values-snoc : (f : ℕ → Skip) (n i : ℕ) → valuesF f (suc n) i ≡ afterValue (valuesF f n i) f
+unfolding valuesF
+values-snoc f zero i = one (f i)
+  where
+    one : (r : Skip) → afterValue r (λ a. Next a) ≡ r
+    one (Next a) = refl
+    one Bad = refl
+    one Deep = refl
+values-snoc f (suc n) i = go (f i) (λ a. values-snoc f n a)
+  where
+    go : (r : Skip) → ((a : ℕ) → valuesF f (suc n) a ≡ afterValue (valuesF f n a) f) → afterValue r (valuesF f (suc n)) ≡ afterValue (afterValue r (valuesF f n)) f
+    go (Next a) h = h a
+    go Bad h = refl
+    go Deep h = refl
+
+pub place-next : (s : List ℕ) (n : ℕ) → placeOf s (suc n) ≡ placeAfter s (placeOf s n)
+unfolding placeOf placeAfter
+place-next s n = ap (λ (x : Skip). placed x (length s)) (values-snoc (skipV s 8) n 0) ∙ go (valuesF (skipV s 8) n 0)
+  where
+    past : placed (skipV s 8 (length s)) (length s) ≡ length s
+    past = ap (λ (x : Skip). placed x (length s)) (sym (skip-past s 8 (length s) (omega arith)))
+
+    go : (r : Skip) → placed (afterValue r (skipV s 8)) (length s) ≡ placed (skipV s 8 (placed r (length s))) (length s)
+    go (Next a) = refl
+    go Bad = sym past
+    go Deep = sym past
+
+pub place-first : (s : List ℕ) → placeOf s 0 ≡ 0
+unfolding placeOf valuesF
+place-first s = refl

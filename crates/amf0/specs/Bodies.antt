@@ -28,11 +28,15 @@ verdict DeepSkip = Deep
 unfoldable pub checked : List ℕ → Checked
 checked s = verdict (row s 0)
 
--- where the n-th value begins, counted from 0
 abbrev pub placed : Skip → ℕ → ℕ
 placed (Next n) end = n
 placed BadSkip end = end
 placed DeepSkip end = end
 
+-- the place after the value at `at`; the body's end where there is none
+unfoldable pub placeAfter : List ℕ → ℕ → ℕ
+placeAfter s at = placed (skipV s 8 at) (length s)
+
+-- where the n-th value begins, counted from 0
 unfoldable pub placeOf : List ℕ → ℕ → ℕ
 placeOf s n = placed (valuesF (skipV s 8) n 0) (length s)

@@ -3,6 +3,7 @@
 // A body is checked whole once (`check_body`), and read from then on by places. Every reader has an answer for
 // every body and every place; the writers are inner ones, and ask their callers for room.
 mod body;
+mod cursor;
 mod property;
 mod skip;
 mod value;
@@ -11,6 +12,7 @@ mod write;
 pub use body::Checked;
 pub use body::check_body;
 pub use body::place_of;
+pub use cursor::Cursor;
 pub use property::Found;
 pub use property::last_property;
 pub use skip::NESTED;
