@@ -1,4 +1,4 @@
--- Refusal 3 is given exactly: bytes that stand for a value that nests deeper than they may are refused as too deep, and not as bad.
+-- Refusal 3: bytes that stand for a value that nests deeper than they may are refused as too deep, and not as bad.
 use mathlib.Core.Path.{_≡_, refl, ap, _∙_}
 use mathlib.Core.Logic.{inl, inr}
 use Prim.Native.Nat.{ℕ, zero, suc, _+_, _<_}

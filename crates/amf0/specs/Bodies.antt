@@ -24,6 +24,12 @@ verdict (Next n) = Whole
 verdict BadSkip = Bad
 verdict DeepSkip = Deep
 
+-- the refusal's number, and 0 for a whole body
+abbrev pub refusalOf : Checked → ℕ
+refusalOf Whole = 0
+refusalOf Bad = 2
+refusalOf Deep = 3
+
 -- "body is not whole AMF0 values end to end" is 2, "a container (03, 08, 0A) lies inside eight others" is 3.
 unfoldable pub checked : List ℕ → Checked
 checked s = verdict (row s 0)

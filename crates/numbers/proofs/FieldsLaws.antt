@@ -161,6 +161,13 @@ pub run-then : (d : List ℕ) (at : ℕ) (xs : List ℕ) (next : ℕ) (e ys f : 
 run-then d at xs next e ys f m k r h l q g =
     record { whole = over-then at m xs ys d e f (r .whole) h (omega (arith, r .count)) g; count = omega (arith, r .count, length-append xs ys) }
 
+-- what was written in all, as it is defined
+pub run-as : (d : List ℕ) (at : ℕ) (xs : List ℕ) (next : ℕ) (e ys : List ℕ) → Run d at xs next e → xs ≡ ys → e ≡ over at ys d
+run-as d at xs next e ys r q = r .whole ∙ ap (λ (l : List ℕ). over at l d) q
+
+pub run-front : (d xs : List ℕ) (next : ℕ) (e ys : List ℕ) → Run d 0 xs next e → xs ≡ ys → e ≡ front ys d
+run-front d xs next e ys r q = run-as d 0 xs next e ys r q ∙ over-zero ys d
+
 -- ---- what was written reads back the same
 
 pub field-written : (n x : ℕ) (p r : List ℕ) → x < 2 ^ (8 * n) → fieldAt n (p ++ (bytesOf n x ++ r)) (length p) ≡ x

@@ -10,6 +10,7 @@ pub use names::NameRead;
 pub use names::empty_name;
 pub use names::name_is;
 pub use names::read_name;
+pub use names::room_of;
 pub use names::same_name;
 pub use names::text_of;
 pub use words::Command;

@@ -2,7 +2,7 @@
 use crate::words::is_word;
 use numbers::write_bytes;
 ghost use mathlib.Core.Path.{_≡_};
-ghost use lib.ListN.{take};
+ghost use lib.ListN.{length, take};
 ghost use Rattle.text.specs.Names.{emptyName, nameRead, textOf};
 ghost use Rattle.text.specs.Words.{same};
 
@@ -55,6 +55,13 @@ pub fn text_of(bytes: &[u8], len: usize) -> &[u8]
         return bytes;
     }
     &bytes[..len]
+}
+
+// How many places a name's array has. Whoever calls it learns the length of the list that the array is.
+pub fn room_of(bytes: [u8; 128]) -> usize
+    ensures { λ r. ⌜ (r ≡ 128) × (length bytes ≡ 128) ⌝ }
+{
+    bytes.len()
 }
 
 pub fn name_is(name: Name, part: &[u8]) -> bool
