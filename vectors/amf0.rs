@@ -1,6 +1,6 @@
 //! Makes the vectors of the AMF0 reader: bodies that go into it, and the answers that have to come out.
 //!
-//! An independent source: the reader below is written from document 01 and the readings of the house plan
+//! An independent source: the reader below is written from document 01 and the readings in docs/DECISIONS.md
 //! alone, as a plain recursive descent with a position and a depth; it shares no line with the proved one.
 //! The bodies are put together byte by byte and never by the reader, so a body is whole, cut or spoilt
 //! whatever the reader thinks of it.
