@@ -1,12 +1,11 @@
 -- The answer to an accepted connect, from the pieces that the code writes, and its length.
-use mathlib.Core.Path.{_≡_, refl, sym, ap, _∙_}
+use mathlib.Core.Path.{_≡_, sym, ap, _∙_}
 use Prim.Native.Nat.{ℕ, _+_}
 use native.Mathlib.Omega.{arith}
 use mathlib.Core.List.{List, [], _∷_, _++_, append-assoc, append-nil}
 use lib.ListN.{length, length-append}
-use Rattle.numbers.specs.Fields.{bytesOf}
 use Rattle.text.specs.Words.{text}
-use Rattle.amf0.specs.Grammar.{counted, done, none, null, number, object, property, string, value}
+use Rattle.amf0.specs.Grammar.{counted, none, number, object, property, string}
 use Rattle.amf0.specs.Writing.{encode, encodeIn, encodeOf, room}
 use Rattle.amf0.proofs.WriteTheorems.{length-encode, length-encodeOf}
 use Rattle.record.specs.Bodies.{connectedStatus, openStatus, stringPair, versionObject}

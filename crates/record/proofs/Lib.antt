@@ -1,3 +1,4 @@
 pub mod RecordLaws
 pub mod StatusLaws
 pub mod ConnectLaws
+pub mod SendingLaws

@@ -1,16 +1,16 @@
 -- Bodies with status objects, from the pieces that the code writes, and their lengths.
 use mathlib.Core.Path.{_≡_, refl, sym, ap, _∙_}
-use Prim.Native.Nat.{ℕ, _+_, _<_, _≤_}
+use Prim.Native.Nat.{ℕ, _+_}
 use native.Mathlib.Omega.{arith}
 use mathlib.Core.List.{List, [], _∷_, _++_, append-assoc, append-nil}
 use lib.ListN.{length, length-append}
 use Rattle.numbers.specs.Fields.{bytesOf}
 use Rattle.numbers.proofs.FieldsLaws.{length-bytesOf}
 use Rattle.text.specs.Words.{text}
-use Rattle.amf0.specs.Grammar.{Properties, counted, done, none, null, number, object, property, string, value}
+use Rattle.amf0.specs.Grammar.{Properties, counted, none, null, number, object, property, string}
 use Rattle.amf0.specs.Writing.{encode, encodeIn, encodeOf, room}
-use Rattle.amf0.proofs.WriteTheorems.{length-encode, length-encodeOf}
-use Rattle.record.specs.Bodies.{openStatus, stringPair, versionObject}
+use Rattle.amf0.proofs.WriteTheorems.{length-encodeOf}
+use Rattle.record.specs.Bodies.{openStatus, stringPair}
 use Rattle.record.specs.Records.{command, header, numberRow, statusObject, statusRow}
 use Rattle.record.proofs.RecordLaws.{record-is}
 

@@ -1,13 +1,13 @@
 -- Outbound records as lists of bytes: document 01, "Outbound records".
-use Prim.Native.Nat.{ℕ, _+_}
+use Prim.Native.Nat.{ℕ}
 use mathlib.Core.Bool.{Bool, false}
-use mathlib.Core.List.{List, [], _∷_, _++_}
+use mathlib.Core.List.{List, [], _++_}
 use lib.ListN.{length}
 use Rattle.numbers.specs.Choose.{pick}
 use Rattle.numbers.specs.Fields.{bytesOf}
 use Rattle.numbers.specs.Whole.{doubleOf}
 use Rattle.text.specs.Words.{text}
-use Rattle.amf0.specs.Grammar.{Properties, Row, Value, boolean, done, none, null, number, object, property, string, value}
+use Rattle.amf0.specs.Grammar.{Properties, Row, boolean, done, none, null, number, object, property, string, value}
 use Rattle.amf0.specs.Writing.{encodeOf}
 use Rattle.record.specs.Texts.{completedFor, connectSuccess, connectedOn, dataStart, levelError, levelStatus, playComplete, playReset, playStart, playingOn, publishStart, publishingOn, resetStream, theBWDone, theError, theResult, theSampleAccess, theStatus}
 
@@ -109,20 +109,27 @@ dataStarted time stream = dataRecord time stream (value (string theStatus) (valu
 
 -- ---- the records of an answer, one after the other
 
--- set chunk size, window, StreamBegin, peer bandwidth, and onBWDone where it is asked for
+-- set chunk size, window, StreamBegin, peer bandwidth
+unfoldable pub fourRecords : ℕ → ℕ → ℕ → List ℕ
+fourRecords chunk window bandwidth = chunkSize chunk ++ (windowSize window ++ (streamBegin 0 0 uncompressed ++ peerBandwidth bandwidth))
+
+-- and onBWDone where it is asked for
 unfoldable pub startRecords : ℕ → ℕ → ℕ → Bool → List ℕ
-startRecords chunk window bandwidth finish =
-    chunkSize chunk ++ (windowSize window ++ (streamBegin 0 0 uncompressed ++ (peerBandwidth bandwidth ++ pick finish bwDone [])))
+startRecords chunk window bandwidth finish = fourRecords chunk window bandwidth ++ pick finish bwDone []
 
 -- "Accepted publish: StreamBegin, onStatus."
 unfoldable pub publishAccepted : List ℕ → ℕ → ℕ → List ℕ
 publishAccepted key time stream = streamBegin stream time plain ++ statusRecord publishStart (publishingOn ++ key) time stream
 
 -- "Accepted play: Reset, StreamBegin, Start, |RtmpSampleAccess, data onStatus."
+unfoldable pub playFirst : List ℕ → ℕ → ℕ → List ℕ
+playFirst key time stream = statusRecord playReset resetStream time stream ++ (streamBegin stream time plain ++ statusRecord playStart (playingOn ++ key) time stream)
+
+unfoldable pub playData : ℕ → ℕ → List ℕ
+playData time stream = sampleAccess time stream ++ dataStarted time stream
+
 unfoldable pub playAccepted : List ℕ → ℕ → ℕ → List ℕ
-playAccepted key time stream =
-    statusRecord playReset resetStream time stream
-    ++ (streamBegin stream time plain ++ (statusRecord playStart (playingOn ++ key) time stream ++ (sampleAccess time stream ++ dataStarted time stream)))
+playAccepted key time stream = playFirst key time stream ++ playData time stream
 
 unfoldable pub playFinished : List ℕ → ℕ → ℕ → List ℕ
 playFinished key time stream = statusRecord playComplete (completedFor ++ key) time stream

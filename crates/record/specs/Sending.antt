@@ -8,6 +8,12 @@ use Rattle.numbers.specs.Choose.{pick}
 use Rattle.numbers.specs.Fields.{front}
 use Rattle.record.specs.declared.sent.Sent.{Sent}
 
+abbrev pub noRoom : Sent
+noRoom = record { fits = false; count = 0 }
+
+abbrev pub allSent : ℕ → Sent
+allSent n = record { fits = true; count = n }
+
 -- whether they fit, how many bytes were written, and the buffer afterwards: "bytes past the written count stay as they were"
 unfoldable pub sent : List ℕ → List ℕ → Sent × List ℕ
-sent records out = pick (ltb (length out) (length records)) (record { fits = false; count = 0 }, out) (record { fits = true; count = length records }, front records out)
+sent records out = pick (ltb (length out) (length records)) (noRoom, out) (allSent (length records), front records out)

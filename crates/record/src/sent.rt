@@ -1,6 +1,6 @@
 // What became of an answer's records.
 ghost use mathlib.Core.Path.{_≡_};
-ghost use mathlib.Core.Bool.{false};
+ghost use Rattle.record.specs.Sending.{allSent, noRoom};
 
 // Whether the buffer was long enough, and how many bytes were written to its front.
 pub struct Sent {
@@ -9,10 +9,16 @@ pub struct Sent {
 }
 
 pub fn no_room() -> Sent
-    ensures { λ r. ⌜ (r .fits ≡ false) × (r .count ≡ 0) ⌝ }
+    ensures { λ r. ⌜ r ≡ noRoom ⌝ }
 {
     Sent {
         fits: false,
         count: 0,
     }
+}
+
+pub fn all_sent(count: usize) -> Sent
+    ensures { λ r. ⌜ r ≡ allSent count ⌝ }
+{
+    Sent { fits: true, count }
 }

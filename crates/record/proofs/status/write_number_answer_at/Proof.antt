@@ -2,7 +2,6 @@ use native.Mathlib.Omega.{arith}
 use Rattle.amf0.specs.Grammar.{null, number, string}
 use Rattle.amf0.proofs.WriteTheorems.{length-encode}
 use Rattle.amf0.specs.Writing.{room}
-use Rattle.record.specs.Records.{command}
 use Rattle.numbers.proofs.FieldsLaws.{run-as, run-start, run-then}
 use Rattle.record.proofs.RecordLaws.{length-header}
 use Rattle.record.proofs.StatusLaws.{number-record}
