@@ -1,4 +1,3 @@
 pub mod RecordLaws
 pub mod StatusLaws
 pub mod ConnectLaws
-pub mod SendingLaws

@@ -1,5 +1,4 @@
 pub mod Texts
 pub mod Records
 pub mod Bodies
-pub mod Sending
 pub mod Clock

@@ -1,26 +1,20 @@
-// Outbound records, written into the lent out buffer.
+// Outbound records: inner writers of the header, of control records, and of commands with status objects.
 //
-// Every answer's records are one public function: it knows their whole length before the first byte is written,
-// and writes all of them or nothing. What it writes is a definition of specs/Records.antt.
-mod answers;
+// Every record is a definition of specs/Records.antt. The writers ask their callers for room; the crate answers
+// tests it once for all records of an answer.
 mod clock;
 mod control;
 mod header;
-mod sent;
 mod status;
 
-pub use answers::connect_accepted;
-pub use answers::error_record;
-pub use answers::media_record;
-pub use answers::ping_request;
-pub use answers::ping_response;
-pub use answers::play_accepted;
-pub use answers::play_finished;
-pub use answers::publish_accepted;
-pub use answers::start_records;
-pub use answers::stream_created;
 pub use clock::time_of;
+pub use control::write_bandwidth_at;
+pub use control::write_body_at;
+pub use control::write_data_started_at;
+pub use control::write_event_at;
+pub use control::write_sample_access_at;
+pub use control::write_size_at;
 pub use header::write_header_at;
-pub use sent::Sent;
-pub use sent::all_sent;
-pub use sent::no_room;
+pub use status::write_connected_at;
+pub use status::write_number_answer_at;
+pub use status::write_status_at;
