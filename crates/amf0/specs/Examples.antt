@@ -64,7 +64,7 @@ answers =
           ∷ checked (0x04 ∷ [])
           ∷ [];
       places = placeOf each 3 ∷ placeOf each 9 ∷ placeOf each 10 ∷ length each ∷ [];
-      found = lastProperty twice 0 (text "a") ∷ lastProperty twice 0 (text "b") ∷ lastProperty twice 0 (text "c") ∷ lastProperty (0x05 ∷ []) 0 (text "a") ∷ [];
+      found = lastProperty twice 0 (text "a") ∷ lastProperty twice 0 (text "b") ∷ lastProperty twice 0 (text "c") ∷ lastProperty (encode (array (property (text "a") null none))) 0 (text "a") ∷ [];
     }
 
 pub answers-are : answers

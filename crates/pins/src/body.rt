@@ -5,6 +5,7 @@ use crate::show::line;
 use crate::show::say;
 use amf0::Amf0Value;
 use amf0::Checked;
+use amf0::Cursor;
 use amf0::Found;
 
 // A text's bytes, where they are in the body.
@@ -93,15 +94,30 @@ fn write_one(body: &[u8], at: usize) {
     }
 }
 
-// The values one after the other, by their number.
+// Whether the cursor stands where the n-th value begins. (Only the first ones are looked up from the start.)
+fn in_place(body: &[u8], n: usize, at: usize) -> bool {
+    if 16 <= n {
+        return true;
+    }
+    amf0::place_of(body, n) == at
+}
+
+// The values one after the other, by a cursor.
 fn write_values(body: &[u8]) {
     let mut n = 0;
+    let mut at = Cursor::start().at;
     while n < body.len() {
-        let at = amf0::place_of(body, n);
         if body.len() <= at {
             return;
         }
-        write_one(body, at);
+        if in_place(body, n, at) {
+            write_one(body, at);
+        } else {
+            say(b" misplaced");
+        }
+        let here = Cursor { at };
+        let next = here.next(body);
+        at = next.at;
         n += 1;
     }
 }

@@ -5,10 +5,10 @@ use Rattle.pins.proofs.body.write_values.Statement.{statement}
 use Rattle.pins.proofs.body.write_values.Tie as tie
 
 abbrev Inv-loop : tie.InvT-loop
-Inv-loop body n₀ n = n ≤ length body
+Inv-loop body n₀ at₀ t6 n at = n ≤ length body
 
 abbrev μ-loop : tie.MeasureT-loop
-μ-loop body n₀ n = length body - n
+μ-loop body n₀ at₀ t6 n at = length body - n
 
 pub write-values-spec : {M : Type 1} → statement M
 write-values-spec =
@@ -16,9 +16,13 @@ write-values-spec =
     (tie.spec
     Inv-loop
     μ-loop
-    (λ c. search needs)
     (λ c κs. search needs)
     (λ c. search needs)
+    (λ c. search needs)
+    (λ c κs. search needs)
+    (λ c κs. search needs)
+    (λ c. search needs)
+    (λ c κs. search needs)
     (λ c κs. search needs)
     (λ c. search needs)
     (λ c. search needs)
