@@ -143,20 +143,19 @@ pub sent-of : (records : List ℕ → List ℕ) (t u out : List ℕ) (x : Sent �
 sent-of records t u out x h e = h ∙ ap (λ (y : List ℕ). sent (records y) out) e
 
 -- ---- what the code wrote is what the answer sends
-pub created-by : (transaction n time : ℕ) (bits : ℕ) (d e : List ℕ) → e ≡ over 0 (command time 0 0 (numberRow theResult transaction bits)) d → bits ≡ doubleOf n → e ≡ front (streamCreated transaction n time) d
+pub created-by : (transaction n time : ℕ) (bits : ℕ) (d e : List ℕ) → e ≡ front (command time 0 0 (numberRow theResult transaction bits)) d → bits ≡ doubleOf n → e ≡ front (streamCreated transaction n time) d
 unfolding streamCreated
-created-by transaction n time bits d e h q = h ∙ over-zero (command time 0 0 (numberRow theResult transaction bits)) d ∙ ap (λ (b : ℕ). front (command time 0 0 (numberRow theResult transaction b)) d) q
+created-by transaction n time bits d e h q = h ∙ ap (λ (b : ℕ). front (command time 0 0 (numberRow theResult transaction b)) d) q
 
-pub error-by : (transaction : ℕ) (code description : List ℕ) (time stream : ℕ) (d e : List ℕ) → e ≡ over 0 (command time stream 0 (statusRow theError transaction levelError code (description ++ []))) d
+pub error-by : (transaction : ℕ) (code description : List ℕ) (time stream : ℕ) (d e : List ℕ) → e ≡ front (command time stream 0 (statusRow theError transaction levelError code (description ++ []))) d
     → e ≡ front (errorRecord transaction code description time stream) d
 unfolding errorRecord
 error-by transaction code description time stream d e h =
-    h ∙ over-zero (command time stream 0 (statusRow theError transaction levelError code (description ++ []))) d
-    ∙ ap (λ (t : List ℕ). front (command time stream 0 (statusRow theError transaction levelError code t)) d) (append-nil description)
+    h ∙ ap (λ (t : List ℕ). front (command time stream 0 (statusRow theError transaction levelError code t)) d) (append-nil description)
 
-pub media-by : (kind time stream : ℕ) (b : Bool) (flags : ℕ) (body d e : List ℕ) → e ≡ over 0 (recordOf kind time stream flags body) d → flags ≡ dropping b → e ≡ front (media kind time stream b body) d
+pub media-by : (kind time stream : ℕ) (b : Bool) (flags : ℕ) (body d e : List ℕ) → e ≡ front (recordOf kind time stream flags body) d → flags ≡ dropping b → e ≡ front (media kind time stream b body) d
 unfolding media
-media-by kind time stream b flags body d e h q = h ∙ over-zero (recordOf kind time stream flags body) d ∙ ap (λ (f : ℕ). front (recordOf kind time stream f body) d) q
+media-by kind time stream b flags body d e h q = h ∙ ap (λ (f : ℕ). front (recordOf kind time stream f body) d) q
 
 -- ---- start, with and without onBWDone
 module _ (chunk window bandwidth : ℕ) (b : Bool) where
@@ -166,15 +165,15 @@ module _ (chunk window bandwidth : ℕ) (b : Bool) where
   pub start-short : b ≡ false → length (startRecords chunk window bandwidth b) ≡ 71
   start-short e = ap (λ (x : Bool). length (startRecords chunk window bandwidth x)) e ∙ length-start chunk window bandwidth .1
 
-  pub start-five : (d e f : List ℕ) → b ≡ true → e ≡ over 0 (fourRecords chunk window bandwidth) d → f ≡ over 71 (command 0 0 1 (numberRow theBWDone 0 0x40C0000000000000)) e → 71 ≤ length d
+  pub start-five : (d e f : List ℕ) → b ≡ true → e ≡ front (fourRecords chunk window bandwidth) d → f ≡ over 71 (command 0 0 1 (numberRow theBWDone 0 0x40C0000000000000)) e → 71 ≤ length d
       → f ≡ front (startRecords chunk window bandwidth b) d
   unfolding startRecords bwDone
   start-five d e f q h g l =
-      front-two 71 (fourRecords chunk window bandwidth) (command 0 0 1 (numberRow theBWDone 0 0x40C0000000000000)) d e f h g (length-four chunk window bandwidth) l
+      front-two 71 (fourRecords chunk window bandwidth) (command 0 0 1 (numberRow theBWDone 0 0x40C0000000000000)) d e f (h ∙ sym (over-zero (fourRecords chunk window bandwidth) d)) g (length-four chunk window bandwidth) l
       ∙ ap (λ (x : Bool). front (fourRecords chunk window bandwidth ++ pick x (command 0 0 1 (numberRow theBWDone 0 0x40C0000000000000)) []) d) (sym q)
 
-  pub start-four : (d e : List ℕ) → b ≡ false → e ≡ over 0 (fourRecords chunk window bandwidth) d → e ≡ front (startRecords chunk window bandwidth b) d
+  pub start-four : (d e : List ℕ) → b ≡ false → e ≡ front (fourRecords chunk window bandwidth) d → e ≡ front (startRecords chunk window bandwidth b) d
   unfolding startRecords
   start-four d e q h =
-      h ∙ over-zero (fourRecords chunk window bandwidth) d ∙ ap (λ (l : List ℕ). front l d) (sym (append-nil (fourRecords chunk window bandwidth)))
+      h ∙ ap (λ (l : List ℕ). front l d) (sym (append-nil (fourRecords chunk window bandwidth)))
       ∙ ap (λ (x : Bool). front (fourRecords chunk window bandwidth ++ pick x bwDone []) d) (sym q)

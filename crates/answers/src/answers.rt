@@ -3,15 +3,15 @@ use crate::sent::Sent;
 use crate::sent::all_sent;
 use crate::sent::no_room;
 use numbers::double_of_u32;
-use record::write_bandwidth_at;
-use record::write_body_at;
-use record::write_connected_at;
-use record::write_data_started_at;
-use record::write_event_at;
-use record::write_number_answer_at;
-use record::write_sample_access_at;
-use record::write_size_at;
-use record::write_status_at;
+use record::write_bandwidth;
+use record::write_body;
+use record::write_connected;
+use record::write_data_started;
+use record::write_event;
+use record::write_number_answer;
+use record::write_sample_access;
+use record::write_size;
+use record::write_status;
 use text::Name;
 use text::StreamId;
 use text::room_of;
@@ -20,19 +20,19 @@ ghost use mathlib.Core.Path.{_≡_};
 ghost use mathlib.Core.List.{_++_};
 ghost use Prim.Native.Nat.{_+_, _≤_};
 ghost use lib.ListN.{length};
-ghost use Rattle.numbers.specs.Fields.{over};
+ghost use Rattle.numbers.specs.Fields.{front};
 ghost use Rattle.text.specs.Names.{textOf};
 ghost use Rattle.record.specs.Records.{connectAccepted, dropping, errorRecord, fourRecords, media, pingRequest, pingResponse, playAccepted, playData, playFinished, playFirst, publishAccepted, startRecords, streamCreated};
 ghost use Rattle.answers.specs.Sending.{sent};
 
 fn write_four(out: &mut [u8], chunk: u32, window: u32, bandwidth: u32)
     requires { ⌜ 71 ≤ length (now out) ⌝ }
-    ensures { λ _. ⌜ now (out .exit) ≡ over 0 (fourRecords chunk window bandwidth) (now (out .entry)) ⌝ }
+    ensures { λ _. ⌜ now (out .exit) ≡ front (fourRecords chunk window bandwidth) (now (out .entry)) ⌝ }
 {
-    write_size_at(out, 0, 1, chunk);
-    write_size_at(out, 17, 5, window);
-    write_event_at(out, 34, 0, 0, 0, StreamId(0), 1);
-    write_bandwidth_at(out, 53, bandwidth);
+    write_size(out, 1, chunk);
+    write_size(&mut out[17..], 5, window);
+    write_event(&mut out[34..], 0, 0, 0, StreamId(0), 1);
+    write_bandwidth(&mut out[53..], bandwidth);
 }
 
 // Set chunk size, window, StreamBegin and peer bandwidth, and onBWDone where it is asked for.
@@ -50,7 +50,7 @@ pub fn start_records(
             return no_room();
         }
         write_four(out, chunk, window, bandwidth);
-        write_number_answer_at(out, 71, b"onBWDone", 0, 0x40C0000000000000, 0, 1);
+        write_number_answer(&mut out[71..], b"onBWDone", 0, 0x40C0000000000000, 0, 1);
         return all_sent(114);
     }
     if out.len() < 71 {
@@ -68,7 +68,7 @@ pub fn stream_created(out: &mut [u8], transaction: u64, number: StreamId, time: 
         return no_room();
     }
     let bits = double_of_u32(number.0);
-    write_number_answer_at(out, 0, b"_result", transaction, bits, time, 0);
+    write_number_answer(out, b"_result", transaction, bits, time, 0);
     all_sent(42)
 }
 
@@ -88,9 +88,8 @@ pub fn error_record(
     if out.len() < total {
         return no_room();
     }
-    write_status_at(
+    write_status(
         out,
-        0,
         b"_error",
         transaction,
         b"error",
@@ -111,10 +110,9 @@ fn publish_accepted_on(out: &mut [u8], key: &[u8], time: u32, stream: StreamId) 
     if out.len() < total {
         return no_room();
     }
-    write_event_at(out, 0, 0, stream.0, time, stream, 0);
-    write_status_at(
-        out,
-        19,
+    write_event(out, 0, stream.0, time, stream, 0);
+    write_status(
+        &mut out[19..],
         b"onStatus",
         0,
         b"status",
@@ -140,11 +138,10 @@ pub fn publish_accepted(out: &mut [u8], key: Name, time: u32, stream: StreamId) 
 // The first three records of an accepted play, and the other two.
 fn write_play(out: &mut [u8], key: &[u8], time: u32, stream: StreamId)
     requires { ⌜ (length (now key) ≤ 128) × (273 + length (now key) ≤ length (now out)) ⌝ }
-    ensures { λ _. ⌜ now (out .exit) ≡ over 0 (playFirst (now (key .entry)) time (stream .0)) (now (out .entry)) ⌝ }
+    ensures { λ _. ⌜ now (out .exit) ≡ front (playFirst (now (key .entry)) time (stream .0)) (now (out .entry)) ⌝ }
 {
-    write_status_at(
+    write_status(
         out,
-        0,
         b"onStatus",
         0,
         b"status",
@@ -154,10 +151,9 @@ fn write_play(out: &mut [u8], key: &[u8], time: u32, stream: StreamId)
         time,
         stream,
     );
-    write_event_at(out, 111, 0, stream.0, time, stream, 0);
-    write_status_at(
-        out,
-        130,
+    write_event(&mut out[111..], 0, stream.0, time, stream, 0);
+    write_status(
+        &mut out[130..],
         b"onStatus",
         0,
         b"status",
@@ -169,12 +165,12 @@ fn write_play(out: &mut [u8], key: &[u8], time: u32, stream: StreamId)
     );
 }
 
-fn write_play_data_at(out: &mut [u8], at: usize, time: u32, stream: StreamId)
-    requires { ⌜ at + 94 ≤ length (now out) ⌝ }
-    ensures { λ _. ⌜ now (out .exit) ≡ over at (playData time (stream .0)) (now (out .entry)) ⌝ }
+fn write_play_data(out: &mut [u8], time: u32, stream: StreamId)
+    requires { ⌜ 94 ≤ length (now out) ⌝ }
+    ensures { λ _. ⌜ now (out .exit) ≡ front (playData time (stream .0)) (now (out .entry)) ⌝ }
 {
-    write_sample_access_at(out, at, time, stream);
-    write_data_started_at(out, at + 37, time, stream);
+    write_sample_access(out, time, stream);
+    write_data_started(&mut out[37..], time, stream);
 }
 
 fn play_accepted_on(out: &mut [u8], key: &[u8], time: u32, stream: StreamId) -> Sent
@@ -187,7 +183,7 @@ fn play_accepted_on(out: &mut [u8], key: &[u8], time: u32, stream: StreamId) -> 
         return no_room();
     }
     write_play(out, key, time, stream);
-    write_play_data_at(out, p, time, stream);
+    write_play_data(&mut out[p..], time, stream);
     all_sent(total)
 }
 
@@ -209,9 +205,8 @@ fn play_finished_on(out: &mut [u8], key: &[u8], time: u32, stream: StreamId) -> 
     if out.len() < total {
         return no_room();
     }
-    write_status_at(
+    write_status(
         out,
-        0,
         b"onStatus",
         0,
         b"status",
@@ -249,7 +244,7 @@ fn connect_accepted_on(
     if out.len() < total {
         return no_room();
     }
-    write_connected_at(out, 0, transaction, version, app, encoding, time);
+    write_connected(out, transaction, version, app, encoding, time);
     all_sent(total)
 }
 
@@ -298,7 +293,7 @@ pub fn media_record(
         return no_room();
     }
     let flags = dropping_of(droppable);
-    write_body_at(out, 0, kind, body, time, stream, flags);
+    write_body(out, kind, body, time, stream, flags);
     all_sent(13 + body.len())
 }
 
@@ -317,7 +312,7 @@ pub fn ping_request(out: &mut [u8], time: u32) -> Sent
     if out.len() < 19 {
         return no_room();
     }
-    write_event_at(out, 0, 6, time, time, StreamId(0), 0);
+    write_event(out, 6, time, time, StreamId(0), 0);
     all_sent(19)
 }
 
@@ -327,6 +322,6 @@ pub fn ping_response(out: &mut [u8], x: u32, time: u32) -> Sent
     if out.len() < 19 {
         return no_room();
     }
-    write_event_at(out, 0, 7, x, time, StreamId(0), 0);
+    write_event(out, 7, x, time, StreamId(0), 0);
     all_sent(19)
 }

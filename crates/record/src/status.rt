@@ -1,5 +1,5 @@
 // Commands with a status object, and commands with a number.
-use crate::header::write_header_at;
+use crate::header::write_header;
 use amf0::write_name_at;
 use amf0::write_null_at;
 use amf0::write_number_at;
@@ -13,13 +13,13 @@ ghost use mathlib.Core.Path.{_≡_};
 ghost use mathlib.Core.List.{[], _∷_, _++_};
 ghost use Prim.Native.Nat.{_+_, _≤_, _<_};
 ghost use lib.ListN.{length};
-ghost use Rattle.numbers.specs.Fields.{over};
+ghost use Rattle.numbers.specs.Fields.{front, over};
 ghost use Rattle.amf0.specs.Writing.{encodeOf};
 ghost use Rattle.record.specs.Bodies.{connectedStatus, openStatus, stringPair, versionObject};
 ghost use Rattle.record.specs.Records.{command, connectAccepted, connectedRow, numberRow, statusRow};
 
 // A property whose value is a string of two parts.
-pub fn write_pair_at(out: &mut [u8], at: usize, name: &[u8], part: &[u8], more: &[u8])
+fn write_pair_at(out: &mut [u8], at: usize, name: &[u8], part: &[u8], more: &[u8])
     requires { ⌜ (length (now name) < 256) × ((length (now part) < 512) × ((length (now more) < 512) × (at + (5 + length (now name) + length (now part) + length (now more)) ≤ length (now out)))) ⌝ }
     ensures { λ _. ⌜ now (out .exit) ≡ over at (stringPair (now (name .entry)) (now (part .entry) ++ now (more .entry))) (now (out .entry)) ⌝ }
 {
@@ -33,7 +33,7 @@ pub fn write_pair_at(out: &mut [u8], at: usize, name: &[u8], part: &[u8], more: 
 }
 
 // A status object up to its end mark: level, code, description.
-pub fn write_open_status_at(
+fn write_open_status_at(
     out: &mut [u8],
     at: usize,
     level: &[u8],
@@ -76,9 +76,8 @@ fn write_status_body_at(
 }
 
 // A command with a name, a transaction, null and a status object.
-pub fn write_status_at(
+pub fn write_status(
     out: &mut [u8],
-    at: usize,
     name: &[u8],
     transaction: u64,
     level: &[u8],
@@ -88,38 +87,37 @@ pub fn write_status_at(
     time: u32,
     stream: StreamId,
 )
-    requires { ⌜ (length (now name) < 256) × ((length (now level) < 256) × ((length (now code) < 512) × ((length (now part) < 512) × ((length (now more) < 512) × (at + (65 + length (now name) + length (now level) + length (now code) + length (now part) + length (now more)) ≤ length (now out)))))) ⌝ }
-    ensures { λ _. ⌜ now (out .exit) ≡ over at (command time (stream .0) 0 (statusRow (now (name .entry)) transaction (now (level .entry)) (now (code .entry)) (now (part .entry) ++ now (more .entry)))) (now (out .entry)) ⌝ }
+    requires { ⌜ (length (now name) < 256) × ((length (now level) < 256) × ((length (now code) < 512) × ((length (now part) < 512) × ((length (now more) < 512) × (65 + length (now name) + length (now level) + length (now code) + length (now part) + length (now more) ≤ length (now out)))))) ⌝ }
+    ensures { λ _. ⌜ now (out .exit) ≡ front (command time (stream .0) 0 (statusRow (now (name .entry)) transaction (now (level .entry)) (now (code .entry)) (now (part .entry) ++ now (more .entry)))) (now (out .entry)) ⌝ }
 {
     let len = 52 + name.len() + level.len() + code.len() + part.len() + more.len();
-    write_header_at(out, at, 20, len, time, stream, 0);
-    write_status_body_at(out, at + 13, name, transaction, level, code, part, more);
+    write_header(out, 20, len, time, stream, 0);
+    write_status_body_at(out, 13, name, transaction, level, code, part, more);
 }
 
 // A command with a name, a transaction, null and a number.
-pub fn write_number_answer_at(
+pub fn write_number_answer(
     out: &mut [u8],
-    at: usize,
     name: &[u8],
     transaction: u64,
     bits: u64,
     time: u32,
     flags: u8,
 )
-    requires { ⌜ (length (now name) < 256) × (at + (35 + length (now name)) ≤ length (now out)) ⌝ }
-    ensures { λ _. ⌜ now (out .exit) ≡ over at (command time 0 flags (numberRow (now (name .entry)) transaction bits)) (now (out .entry)) ⌝ }
+    requires { ⌜ (length (now name) < 256) × (35 + length (now name) ≤ length (now out)) ⌝ }
+    ensures { λ _. ⌜ now (out .exit) ≡ front (command time 0 flags (numberRow (now (name .entry)) transaction bits)) (now (out .entry)) ⌝ }
 {
     let len = 22 + name.len();
-    let p = at + 16 + name.len();
-    write_header_at(out, at, 20, len, time, StreamId(0), flags);
-    write_string_at(out, at + 13, name);
+    let p = 16 + name.len();
+    write_header(out, 20, len, time, StreamId(0), flags);
+    write_string_at(out, 13, name);
     write_number_at(out, p, transaction);
     write_null_at(out, p + 9);
     write_number_at(out, p + 10, bits);
 }
 
 // The command object of an accepted connect: fmsVer and capabilities, 31.
-pub fn write_version_at(out: &mut [u8], at: usize, version: &[u8])
+fn write_version_at(out: &mut [u8], at: usize, version: &[u8])
     requires { ⌜ (length (now version) < 256) × (at + (38 + length (now version)) ≤ length (now out)) ⌝ }
     ensures { λ _. ⌜ now (out .exit) ≡ over at (versionObject (now (version .entry))) (now (out .entry)) ⌝ }
 {
@@ -169,19 +167,18 @@ fn write_connected_body_at(
 }
 
 // The answer to an accepted connect.
-pub fn write_connected_at(
+pub fn write_connected(
     out: &mut [u8],
-    at: usize,
     transaction: u64,
     version: &[u8],
     app: &[u8],
     encoding: u64,
     time: u32,
 )
-    requires { ⌜ (length (now version) < 256) × ((length (now app) < 256) × (at + (200 + length (now version) + length (now app)) ≤ length (now out))) ⌝ }
-    ensures { λ _. ⌜ now (out .exit) ≡ over at (connectAccepted transaction (now (version .entry)) (now (app .entry)) encoding time) (now (out .entry)) ⌝ }
+    requires { ⌜ (length (now version) < 256) × ((length (now app) < 256) × (200 + length (now version) + length (now app) ≤ length (now out))) ⌝ }
+    ensures { λ _. ⌜ now (out .exit) ≡ front (connectAccepted transaction (now (version .entry)) (now (app .entry)) encoding time) (now (out .entry)) ⌝ }
 {
     let len = 187 + version.len() + app.len();
-    write_header_at(out, at, 20, len, time, StreamId(0), 0);
-    write_connected_body_at(out, at + 13, transaction, version, app, encoding);
+    write_header(out, 20, len, time, StreamId(0), 0);
+    write_connected_body_at(out, 13, transaction, version, app, encoding);
 }

@@ -1,6 +1,4 @@
-use mathlib.Core.Path.{_∙_}
 use native.Mathlib.Omega.{arith}
-use Rattle.numbers.proofs.FieldsLaws.{over-zero}
 use Rattle.answers.proofs.SendingLaws.{length-connect, sent-no, sent-yes}
 use borrow.Author.Needs.{needs}
 use Rattle.answers.proofs.answers.connect_accepted_on.Statement.{statement}
@@ -17,4 +15,4 @@ connect-accepted-on-spec =
     (λ c κs. search needs)
     (λ c κs. search needs)
     (λ c. search needs)
-    (λ c. sent-yes _ _ _ _ _ (c .before .before .before .write-connected-at .ensures ∙ over-zero _ _) (c .all-sent .ensures) (length-connect _ _ _ _ _) (omega arith)))
+    (λ c. sent-yes _ _ _ _ _ (c .before .before .before .write-connected .ensures) (c .all-sent .ensures) (length-connect _ _ _ _ _) (omega arith)))

@@ -18,4 +18,4 @@ error-record-spec =
     (λ c κs. search needs)
     (λ c κs. search needs)
     (λ c. search needs)
-    (λ c. sent-yes _ _ _ _ _ (error-by _ _ _ _ _ _ _ (c .before .before .before .write-status-at .ensures)) (c .all-sent .ensures) (length-error _ _ _ _ _) (omega arith)))
+    (λ c. sent-yes _ _ _ _ _ (error-by _ _ _ _ _ _ _ (c .before .before .before .write-status .ensures)) (c .all-sent .ensures) (length-error _ _ _ _ _) (omega arith)))

@@ -18,4 +18,4 @@ media-record-spec =
     (λ c. search needs)
     (λ c κs. search needs)
     (λ c. search needs)
-    (λ c. sent-yes _ _ _ _ _ (media-by _ _ _ _ _ _ _ _ (c .before .before .before .write-body-at .ensures) (c .before .before .before .before .before .dropping-of .ensures)) (c .all-sent .ensures) (length-media _ _ _ _ _) (omega arith)))
+    (λ c. sent-yes _ _ _ _ _ (media-by _ _ _ _ _ _ _ _ (c .before .before .before .write-body .ensures) (c .before .before .before .before .before .dropping-of .ensures)) (c .all-sent .ensures) (length-media _ _ _ _ _) (omega arith)))

@@ -1,6 +1,4 @@
-use mathlib.Core.Path.{_∙_}
 use native.Mathlib.Omega.{arith}
-use Rattle.numbers.proofs.FieldsLaws.{over-zero}
 use Rattle.answers.proofs.SendingLaws.{length-control, sent-no, sent-yes}
 use borrow.Author.Needs.{needs}
 use Rattle.answers.proofs.answers.ping_response.Statement.{statement}
@@ -15,4 +13,4 @@ ping-response-spec =
     (λ c κs. search needs)
     (λ c κs. search needs)
     (λ c. search needs)
-    (λ c. sent-yes _ _ _ _ _ (c .before .before .before .write-event-at .ensures ∙ over-zero _ _) (c .all-sent .ensures) (length-control _ _ _ _ _) (omega arith)))
+    (λ c. sent-yes _ _ _ _ _ (c .before .before .before .write-event .ensures) (c .all-sent .ensures) (length-control _ _ _ _ _) (omega arith)))

@@ -1,6 +1,4 @@
-use mathlib.Core.Path.{_∙_}
 use native.Mathlib.Omega.{arith}
-use Rattle.numbers.proofs.FieldsLaws.{over-zero}
 use Rattle.record.specs.Records.{playFinished, statusRecord}
 use Rattle.answers.proofs.SendingLaws.{length-finished, sent-no, sent-yes}
 use borrow.Author.Needs.{needs}
@@ -9,7 +7,7 @@ use Rattle.answers.proofs.answers.play_finished_on.Tie as tie
 
 returns-2 : tie.Need-returns-2
 unfolding playFinished statusRecord
-returns-2 c = sent-yes _ _ _ _ _ (c .before .before .before .write-status-at .ensures ∙ over-zero _ _) (c .all-sent .ensures) (length-finished _ _ _) (omega arith)
+returns-2 c = sent-yes _ _ _ _ _ (c .before .before .before .write-status .ensures) (c .all-sent .ensures) (length-finished _ _ _) (omega arith)
 
 pub play-finished-on-spec : {M : Type 1} → statement M
 play-finished-on-spec =

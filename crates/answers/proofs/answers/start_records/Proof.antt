@@ -1,4 +1,5 @@
 use native.Mathlib.Omega.{arith}
+use Rattle.numbers.proofs.FieldsLaws.{lent-part}
 use Rattle.answers.proofs.SendingLaws.{sent-no, sent-yes, start-five, start-four, start-long, start-short}
 use borrow.Author.Needs.{needs}
 use Rattle.answers.proofs.answers.start_records.Statement.{statement}
@@ -12,10 +13,13 @@ start-records-spec =
     (λ c. sent-no _ _ _ _ (c .no-room .ensures) (start-long _ _ _ _ (c .before .before .if1 .taken)) (omega arith))
     (λ c κs. search needs)
     (λ c. search needs)
+    (λ c. search needs)
+    (λ c. search needs)
+    (λ c. search needs)
     (λ c κs. search needs)
     (λ c κs. search needs)
     (λ c. search needs)
-    (λ c. sent-yes _ _ _ _ _ (start-five _ _ _ _ _ _ _ (c .before .before .before .before .before .before .before .before .before .before .before .if1 .taken) (c .before .before .before .before .before .before .before .before .write-four .ensures) (c .before .before .before .write-number-answer-at .ensures) (omega arith)) (c .all-sent .ensures) (start-long _ _ _ _ (c .before .before .before .before .before .before .before .before .before .before .before .if1 .taken)) (omega arith))
+    (λ c. sent-yes _ _ _ _ _ (start-five _ _ _ _ _ _ _ (c .before .before .before .before .before .before .before .before .before .before .before .if1 .taken) (c .before .before .before .before .before .before .before .before .write-four .ensures) (lent-part _ _ _ 71 (c .before .before .before .write-number-answer .ensures) (omega arith)) (omega arith)) (c .all-sent .ensures) (start-long _ _ _ _ (c .before .before .before .before .before .before .before .before .before .before .before .if1 .taken)) (omega arith))
     (λ c κs. search needs)
     (λ c. sent-no _ _ _ _ (c .no-room2 .ensures) (start-short _ _ _ _ (c .before .before .if1 .left)) (omega arith))
     (λ c κs. search needs)

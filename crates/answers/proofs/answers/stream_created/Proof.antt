@@ -15,4 +15,4 @@ stream-created-spec =
     (λ c κs. search needs)
     (λ c κs. search needs)
     (λ c. search needs)
-    (λ c. sent-yes _ _ _ _ _ (created-by _ _ _ _ _ _ (c .before .before .before .write-number-answer-at .ensures) (c .before .before .before .before .before .before .double-of-u32 .ensures)) (c .all-sent .ensures) (length-created _ _ _) (omega arith)))
+    (λ c. sent-yes _ _ _ _ _ (created-by _ _ _ _ _ _ (c .before .before .before .write-number-answer .ensures) (c .before .before .before .before .before .before .double-of-u32 .ensures)) (c .all-sent .ensures) (length-created _ _ _) (omega arith)))
