@@ -2,6 +2,7 @@ pub mod ReadingLaws
 pub mod SkippingLaws
 pub mod BodiesLaws
 pub mod PropertyLaws
+pub mod PlainLaws
 pub mod CompleteLaws
 pub mod SoundLaws
 pub mod BodyTheorems

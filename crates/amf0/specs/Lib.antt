@@ -3,6 +3,7 @@ pub mod Reading
 pub mod Skipping
 pub mod Bodies
 pub mod Properties
+pub mod Plain
 pub mod Showing
 pub mod Writing
 pub mod Examples

@@ -4,6 +4,7 @@
 // every body and every place; the writers are inner ones, and ask their callers for room.
 mod body;
 mod cursor;
+mod plain;
 mod property;
 mod skip;
 mod value;
@@ -13,6 +14,9 @@ pub use body::Checked;
 pub use body::check_body;
 pub use body::place_of;
 pub use cursor::Cursor;
+pub use plain::Plain;
+pub use plain::plain_at;
+pub use plain::plain_property;
 pub use property::Found;
 pub use property::last_property;
 pub use skip::NESTED;

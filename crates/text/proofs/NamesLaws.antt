@@ -1,11 +1,11 @@
 -- Names: a text that fits is read back from its name.
-use mathlib.Core.Path.{_≡_, refl, sym, _∙_}
-use Prim.Native.Nat.{ℕ, _≤_, _<_}
+use mathlib.Core.Path.{_≡_, refl, sym, ap, _∙_}
+use Prim.Native.Nat.{ℕ, _-_, _≤_, _<_}
 use native.Mathlib.Omega.{arith}
 use mathlib.Core.Bool.{true, false}
 use mathlib.Core.List.{List}
-use lib.ListN.{length, replicate, take}
-use lib.Seq.{take-all, take-at}
+use lib.ListN.{length, replicate, take, drop, drop-of-length-le, length-drop}
+use lib.Seq.{take-all, take-at, take-nil}
 use borrow.Author.Tests.{lt-ltb, le-ltb}
 use Rattle.numbers.specs.Fields.{front}
 use Rattle.numbers.proofs.FieldsLaws.{length-front}
@@ -35,3 +35,10 @@ name-places t h = let z : List ℕ = replicate 128 0 in let n : length z ≡ 128
 -- a length past the end
 pub text-all : (b : List ℕ) (n : ℕ) → length b ≤ n → b ≡ take n b
 text-all b n h = sym (take-all n b h)
+
+-- ---- a part
+pub part-past : (b : List ℕ) (at n : ℕ) → length b < at → take 0 b ≡ take n (drop at b)
+part-past b at n h = sym (ap (take n) (drop-of-length-le b {i = at} (omega arith)) ∙ take-nil n)
+
+pub part-in : (b r : List ℕ) (at n : ℕ) → r ≡ take n (take (length b - at) (drop at b)) → r ≡ take n (drop at b)
+part-in b r at n e = e ∙ ap (take n) (take-all (length b - at) (drop at b) (omega (arith, length-drop at b)))

@@ -9,6 +9,7 @@ pub use names::Name;
 pub use names::NameRead;
 pub use names::empty_name;
 pub use names::name_is;
+pub use names::part_of;
 pub use names::read_name;
 pub use names::room_of;
 pub use names::same_name;

@@ -2,7 +2,7 @@
 use crate::words::is_word;
 use numbers::write_bytes;
 ghost use mathlib.Core.Path.{_≡_};
-ghost use lib.ListN.{length, take};
+ghost use lib.ListN.{drop, length, take};
 ghost use Rattle.text.specs.Names.{emptyName, nameRead, textOf};
 ghost use Rattle.text.specs.Words.{same};
 
@@ -55,6 +55,16 @@ pub fn text_of(bytes: &[u8], len: usize) -> &[u8]
         return bytes;
     }
     &bytes[..len]
+}
+
+// The `len` bytes from `start` on, lent back: those past the end are left out.
+pub fn part_of(bytes: &[u8], start: usize, len: usize) -> &[u8]
+    ensures { λ r. ⌜ now r ≡ take len (drop start (now (bytes .entry))) ⌝ }
+{
+    if bytes.len() < start {
+        return &bytes[..0];
+    }
+    text_of(&bytes[start..], len)
 }
 
 // How many places a name's array has. Whoever calls it learns the length of the list that the array is.

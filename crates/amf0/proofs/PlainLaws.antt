@@ -1,0 +1,30 @@
+-- Values as the steps use them: the cases, and what is written read back.
+use mathlib.Core.Path.{_≡_, sym, ap, _∙_}
+use Prim.Native.Nat.{ℕ, _+_, _≤_}
+use mathlib.Core.List.{List}
+use lib.ListN.{length}
+use borrow.Author.Tests.{le-ltb}
+use Rattle.numbers.specs.Fields.{fieldAt}
+use Rattle.amf0.specs.Plain.{plain, plainAt, plainFound, propertyAt}
+use Rattle.amf0.specs.Properties.{lastProperty}
+use Rattle.amf0.specs.Reading.{nothing, readAt}
+use Rattle.amf0.specs.declared.plain.Plain.{Plain}
+use Rattle.amf0.specs.declared.plain.Plain.the-variants.{NoValue}
+use Rattle.amf0.specs.declared.property.Found.{Found}
+use Rattle.amf0.specs.declared.value.Amf0Value.{Amf0Value}
+use Rattle.amf0.specs.declared.value.Read.{Read}
+
+pub plain-told : (v w : Amf0Value) (n : ℕ) → v ≡ w → plain w n ≡ plain v n
+plain-told v w n e = ap (λ (x : Amf0Value). plain x n) (sym e)
+
+pub plain-past : (s : List ℕ) (at : ℕ) → length s ≤ at → NoValue ≡ plainAt s at
+unfolding plainAt readAt
+plain-past s at h = simp (le-ltb at (length s) h)
+
+pub plain-read : (s : List ℕ) (at : ℕ) (r : Read) (n : ℕ) (x : Plain) → x ≡ plain (r .value) n → r ≡ readAt s at → n ≡ fieldAt 8 s (at + 1) → x ≡ plainAt s at
+unfolding plainAt
+plain-read s at r n x e f g = e ∙ ap (λ (q : Read). plain (q .value) n) f ∙ ap (plain (readAt s at .value)) g
+
+pub plain-found : (s : List ℕ) (at : ℕ) (w : List ℕ) (f : Found) (x : Plain) → x ≡ plainFound s f → lastProperty s at w ≡ f → x ≡ propertyAt s at w
+unfolding propertyAt
+plain-found s at w f x e g = e ∙ ap (plainFound s) (sym g)
