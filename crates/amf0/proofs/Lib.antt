@@ -2,10 +2,10 @@ pub mod ReadingLaws
 pub mod SkippingLaws
 pub mod BodiesLaws
 pub mod PropertyLaws
-pub mod PlainLaws
 pub mod CompleteLaws
 pub mod SoundLaws
 pub mod BodyTheorems
 pub mod ReadTheorems
+pub mod PlainLaws
 pub mod WriteTheorems
 pub mod DeepTheorems

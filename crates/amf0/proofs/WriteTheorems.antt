@@ -23,7 +23,7 @@ said true = refl
 said false = refl
 
 -- the bytes written are as many as `room` says
-text-room : (w : ℕ) (t : List ℕ) → length (counted w t) ≡ w + length t
+pub text-room : (w : ℕ) (t : List ℕ) → length (counted w t) ≡ w + length t
 text-room w t = omega (arith, length-append (bytesOf w (length t)) t, length-bytesOf w (length t))
 
 mutual

@@ -8,6 +8,8 @@ use Rattle.numbers.specs.Choose.{pick}
 use Rattle.numbers.specs.Fields.{fieldAt}
 use Rattle.text.specs.Words.{same}
 use Rattle.amf0.specs.Grammar.{Properties, Row, Spells, Value, array, boolean, date, done, long, none, null, number, object, property, strict, string, undefined, value}
+use Rattle.amf0.specs.declared.plain.Plain.{Plain}
+use Rattle.amf0.specs.declared.plain.Plain.the-variants.{Bits, Boolean as Truth, Text as Part, Object as Properly, Other}
 use Rattle.amf0.specs.declared.property.Found.{Found}
 use Rattle.amf0.specs.declared.property.Found.the-variants.{At, Missing}
 use Rattle.amf0.specs.declared.value.Amf0Value.{Amf0Value}
@@ -25,6 +27,19 @@ shown (array ps) at = EcmaArray (at + 1)
 shown (strict vs) at = StrictArray (at + 1)
 shown (date n z) at = Date
 shown (long t) at = LongText (at + 1 + 4) (length t)
+
+-- the case that `plain_at` gives of it
+abbrev pub plainShown : Value → ℕ → Plain
+plainShown (number n) at = Bits n
+plainShown (boolean t) at = Truth t
+plainShown (string t) at = Part (at + 1 + 2) (length t)
+plainShown (object ps) at = Properly
+plainShown null at = Other
+plainShown undefined at = Other
+plainShown (array ps) at = Other
+plainShown (strict vs) at = Other
+plainShown (date n z) at = Other
+plainShown (long t) at = Other
 
 -- and what stands at the places that it names: a number's bits, a text's bytes
 abbrev pub Content : List ℕ → ℕ → Value → Type 0

@@ -8,7 +8,7 @@ use native.Mathlib.Omega.{arith}
 use mathlib.Core.List.{List, [], _∷_, _++_, append-assoc, append-nil}
 use lib.ListN.{length, take, drop, set, getD, length-append, length-drop, drop-of-length-le, take-append-drop, List·getD-eq-default}
 use lib.Seq.{length-take-le, set-split, take-at, drop-at, append-snoc, drop-drop, take-suc, take-all, getD-append-add, getD-at}
-use Rattle.numbers.specs.Fields.{bytesOf, fieldAt, front, over}
+use Rattle.numbers.specs.Fields.{Run, bytesOf, fieldAt, front, over}
 
 -- ---- reading
 
@@ -144,11 +144,9 @@ over-zero xs d = let z : 0 + length xs ≡ length xs = omega arith in ap (λ (n 
 pub front-two : (k : ℕ) (xs ys d e f : List ℕ) → e ≡ over 0 xs d → f ≡ over k ys e → length xs ≡ k → k ≤ length d → f ≡ front (xs ++ ys) d
 front-two k xs ys d e f he hf l h = over-then 0 k xs ys d e f he hf (omega arith) h ∙ over-zero (xs ++ ys) d
 
--- e is d after a run of writes of xs in all, which began at `at` and has come to `next`
-pub record Run (d : List ℕ) (at : ℕ) (xs : List ℕ) (next : ℕ) (e : List ℕ) : Type 0 where
-  pub whole : e ≡ over at xs d
-  pub count : next ≡ at + length xs
+-- ---- a run of writes, one behind the other
 
+-- nothing yet
 pub run-start : (d : List ℕ) (at : ℕ) → Run d at [] at d
 unfolding over
 run-start d at =

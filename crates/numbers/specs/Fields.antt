@@ -1,4 +1,5 @@
 -- Big-endian fields of any number of bytes, read and written.
+use mathlib.Core.Path.{_≡_}
 use Prim.Native.Nat.{ℕ, zero, suc, _+_, _*_, _/_, _%_}
 use mathlib.Core.List.{List, [], _∷_, _++_}
 use lib.ListN.{length, getD, take, drop}
@@ -20,3 +21,8 @@ front xs d = xs ++ drop (length xs) d
 -- d with xs in the place of its bytes from `at` on
 unfoldable pub over : ℕ → List ℕ → List ℕ → List ℕ
 over at xs d = take at d ++ (xs ++ drop (at + length xs) d)
+
+-- the bytes xs were written into d from `at` on: the buffer afterwards, and the place behind them
+pub record Run (d : List ℕ) (at : ℕ) (xs : List ℕ) (next : ℕ) (e : List ℕ) : Type 0 where
+  pub whole : e ≡ over at xs d
+  pub count : next ≡ at + length xs
