@@ -27,18 +27,18 @@ WARNING = 0x600000  # tshark's number for the severity; an error's is greater
 
 def records(lines):
     for line in lines:
-        words = line.split()
-        if words[0] == 'time' or words[1:] == ['none']:
+        if re.fullmatch(r'time .*|\S+ none', line.strip()):
             continue
-        if len(words) != 3 or len(words[2]) != 2 * int(words[1]):
-            raise ValueError(f'{words[0]}: the line is not a name, a count and that many bytes')
-        rest = bytes.fromhex(words[2])
+        words = re.fullmatch(r'(\S+) (\d+) ((?:[0-9a-f]{2})+)', line.strip())
+        if not words or len(words[3]) != 2 * int(words[2]):
+            raise ValueError(f'{line.strip()[:40]}: the line is not a name, a count and that many bytes')
+        name, rest = words[1], bytes.fromhex(words[3])
         while rest:
             end = 13 + int.from_bytes(rest[1:4], 'big')
             if len(rest) < end:
-                raise ValueError(f'{words[0]}: the last record is cut short')
+                raise ValueError(f'{name}: the last record is cut short')
             time, stream = struct.unpack('>II', rest[4:12])
-            yield Record(words[0], rest[0], time, stream, rest[13:end])
+            yield Record(name, rest[0], time, stream, rest[13:end])
             rest = rest[end:]
 
 
@@ -181,7 +181,7 @@ def shows(field, data, show):
 def complaints(record, packets):
     found = []
     for packet in packets:
-        marks = [mark for mark in named(packet, r'_ws\.(malformed|short|unreassembled)') if mark.tag == 'proto']
+        marks = [proto for proto in packet if proto.get('name') in ('_ws.malformed', '_ws.short', '_ws.unreassembled')]
         found += [f'tshark says {mark.get("showname")}' for mark in marks]
         for mark in named(packet, r'_ws\.expert'):
             if any(int(severity.get('show')) >= WARNING for severity in named(mark, r'_ws\.expert\.severity')):
@@ -195,13 +195,14 @@ def complaints(record, packets):
             found.append(f'tshark says {field.get("showname")}')
 
     header = {field.get('name').split('.')[-1]: int(field.get('show'), 0) for field in named(message, r'rtmpt\.header\..*')}
-    seen = {'type': header['typeid'], 'stream': header['streamid'], 'time': header.get('ets', header['timestamp']), 'length': header['bodysize']}
-    sent = {'type': record.type, 'stream': record.stream, 'time': record.time, 'length': len(record.body)}
-    found += [f'tshark sees {part} {seen[part]}, the record has {sent[part]}' for part in sent if seen[part] != sent[part]]
+    for part, seen, sent in (
+            ('type', header.get('typeid'), record.type), ('stream', header.get('streamid'), record.stream),
+            ('time', header.get('ets', header.get('timestamp')), record.time), ('length', header.get('bodysize'), len(record.body))):
+        if seen != sent:
+            found.append(f'tshark sees {part} {seen}, the record has {sent}')
 
-    # tshark shows no body, if it is empty.
-    start, body = next(((int(field.get('pos')), field.get('value')) for field in message if field.get('show') == 'RTMP Body'), (0, ''))
-    if body != record.body.hex():
+    shown = [field for field in message if field.get('show') == 'RTMP Body']  # none, if the body is empty
+    if ''.join(field.get('value') for field in shown) != record.body.hex():
         found.append('tshark sees another body than the record has')
     if record.type in CONTROLS:
         size, parts = CONTROLS[record.type]
@@ -219,6 +220,7 @@ def complaints(record, packets):
     except ValueError as error:
         return found + [f'the reader says {error}']
     fields = [field for field in named(message, r'amf\..*') if not len(field)]
+    start = int(shown[0].get('pos')) if shown else 0
     leaves = [(field.get('name'), int(field.get('pos')) - start, int(field.get('size'))) for field in fields]
     if leaves != wanted:
         differ = next(pair for pair in itertools.zip_longest(leaves, wanted) if pair[0] != pair[1])

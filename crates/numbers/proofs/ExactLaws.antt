@@ -112,3 +112,10 @@ itself-widens x f h = and-i (fits binary64 x) (not (isNan x)) (fits-widens x f) 
 
 pub differs-bits : (x : Float) → ne x x ≡ true → 9221120237041090560 ≡ toBits binary64 x
 differs-bits x h = sym (ap (toBits binary64) (differs-from-itself x (subst T (sym h) tt)) ∙ double-nan)
+
+-- ---- a single that is held, written as a double and read again: the same value, a NaN too
+pub single-back : (x : Float) → T (fits binary32 x) → convert binary32 (ofBits binary64 (toBits binary64 x)) ≡ x
+single-back x h = ap (convert binary32) (ofBits-toBits binary64 x (fits-widens x h)) ∙ convert-fits binary32 x h
+
+pub single-lt : (x : Float) → T (fits binary32 x) → toBits binary64 x < 18446744073709551616
+single-lt x h = toBits-lt binary64 x (fits-widens x h)

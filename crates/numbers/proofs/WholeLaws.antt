@@ -10,13 +10,14 @@ use lib.IntN.{pos}
 use lib.Pow.{pow-add, pow-pos, pow-mono, shl-lt, shr-lt, shr-shr}
 use lib.Ieee.{Float, nan, inf, fin, binary64, up, down, lt, eq, le, isNan, ofBits, ofInt, toUnsigned, inUnsigned, inFloat}
 use lib.Ieee.Back.{unsigned-back}
-use lib.Ieee.Fits.{down-pos}
+use lib.Ieee.Bits.{ofBits-toBits, toBits-lt}
+use lib.Ieee.Fits.{down-pos, ofInt-fits}
 use lib.Ieee.Exact.{HasValue}
 use lib.Ieee.Nearest.{div-same}
 use borrow.Author.Tests.{lt-ltb, le-ltb, le-leb, lt-leb, eq-eqb, ne-eqb}
 use Rattle.numbers.specs.Choose.{pick}
 use Rattle.numbers.specs.Single.{field, places, digits}
-use Rattle.numbers.specs.Whole.{u32Of, wholeOf}
+use Rattle.numbers.specs.Whole.{doubleOf, u32Of, wholeOf}
 use Rattle.numbers.proofs.PatternLaws.{le-or-lt, digits-lt, digits-ge, is-nan, is-inf, is-finite}
 
 -- ---- the sentence and lib.Ieee's words
@@ -154,3 +155,13 @@ in-no-nan (fin s m k) t = tt
 pub whole-no-nan : (n : ℕ) → n < 4294967296 → T (not (isNan (ofInt binary64 (pos n))))
 unfolding inFloat
 whole-no-nan n h = in-no-nan (ofInt binary64 (pos n)) (unsigned-back binary64 32 n (le→leb n 0x20000000000000 (omega arith)) h .0)
+
+-- ---- and as a double it is still the same number
+pub whole-back : (n : ℕ) → n < 4294967296 → u32Of (doubleOf n) ≡ n
+unfolding u32Of inFloat
+whole-back n h =
+    let x = ofInt binary64 (pos n) in
+    ap wholeOf (ofBits-toBits binary64 x (ofInt-fits binary64 (pos n))) ∙ whole-ieee x ∙ unsigned-back binary64 32 n (le→leb n 0x20000000000000 (omega arith)) h .1
+
+pub double-lt : (n : ℕ) → doubleOf n < 18446744073709551616
+double-lt n = toBits-lt binary64 (ofInt binary64 (pos n)) (ofInt-fits binary64 (pos n))
