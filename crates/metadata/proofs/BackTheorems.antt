@@ -132,19 +132,73 @@ module _ (m : StreamMetadata) (h : Held m) where
 
   good : AllGood (listed m)
   unfolding listed
-  good =
-      ((lit≤ tt, lit≤ tt), (good-whole (m .«has_video_width») (m .«video_width»),
-      ((lit≤ tt, lit≤ tt), (good-whole (m .«has_video_height») (m .«video_height»),
-      ((lit≤ tt, lit≤ tt), (good-whole (m .«has_video_codec_id») (m .«video_codec_id»),
-      ((lit≤ tt, lit≤ tt), (good-whole (m .«has_video_bitrate_kbps») (m .«video_bitrate_kbps»),
-      ((lit≤ tt, lit≤ tt), (good-number (m .«has_video_frame_rate») (toBits binary64 (m .«video_frame_rate»)) (single-lt (m .«video_frame_rate») (h .rate)),
-      ((lit≤ tt, lit≤ tt), (good-whole (m .«has_audio_codec_id») (m .«audio_codec_id»),
-      ((lit≤ tt, lit≤ tt), (good-whole (m .«has_audio_bitrate_kbps») (m .«audio_bitrate_kbps»),
-      ((lit≤ tt, lit≤ tt), (good-whole (m .«has_audio_sample_rate») (m .«audio_sample_rate»),
-      ((lit≤ tt, lit≤ tt), (good-whole (m .«has_audio_channels») (m .«audio_channels»),
-      ((lit≤ tt, lit≤ tt), (good-boolean (m .«has_audio_is_stereo») (m .«audio_is_stereo»),
-      ((lit≤ tt, lit≤ tt), (good-string (m .«has_encoder») (textOf (m .encoder)) (h .encoder),
-      tt))))))))))))))))))))))
+  good = (
+    (lit≤ tt, lit≤ tt),
+    (
+      good-whole (m .«has_video_width») (m .«video_width»),
+      (
+        (lit≤ tt, lit≤ tt),
+        (
+          good-whole (m .«has_video_height») (m .«video_height»),
+          (
+            (lit≤ tt, lit≤ tt),
+            (
+              good-whole (m .«has_video_codec_id») (m .«video_codec_id»),
+              (
+                (lit≤ tt, lit≤ tt),
+                (
+                  good-whole (m .«has_video_bitrate_kbps») (m .«video_bitrate_kbps»),
+                  (
+                    (lit≤ tt, lit≤ tt),
+                    (
+                      good-number (m .«has_video_frame_rate») (toBits binary64 (m .«video_frame_rate»)) (single-lt (m .«video_frame_rate») (h .rate)),
+                      (
+                        (lit≤ tt, lit≤ tt),
+                        (
+                          good-whole (m .«has_audio_codec_id») (m .«audio_codec_id»),
+                          (
+                            (lit≤ tt, lit≤ tt),
+                            (
+                              good-whole (m .«has_audio_bitrate_kbps») (m .«audio_bitrate_kbps»),
+                              (
+                                (lit≤ tt, lit≤ tt),
+                                (
+                                  good-whole (m .«has_audio_sample_rate») (m .«audio_sample_rate»),
+                                  (
+                                    (lit≤ tt, lit≤ tt),
+                                    (
+                                      good-whole (m .«has_audio_channels») (m .«audio_channels»),
+                                      (
+                                        (lit≤ tt, lit≤ tt),
+                                        (
+                                          good-boolean (m .«has_audio_is_stereo») (m .«audio_is_stereo»),
+                                          (
+                                            (lit≤ tt, lit≤ tt),
+                                            (
+                                              good-string (m .«has_encoder») (textOf (m .encoder)) (h .encoder),
+                                              tt,
+                                            ),
+                                          ),
+                                        ),
+                                      ),
+                                    ),
+                                  ),
+                                ),
+                              ),
+                            ),
+                          ),
+                        ),
+                      ),
+                    ),
+                  ),
+                ),
+              ),
+            ),
+          ),
+        ),
+      ),
+    ),
+  )
 
   found : (w : List ℕ) (x : Maybe) → lastListed w (listed m) nothing ≡ orElse x nothing → Finds s (lastProperty s at w) x
   unfolding metadataRow FitsOf depthOf nth

@@ -117,8 +117,10 @@ run-one xs i d at p e r f g h n =
     let k = length (piece (getD xs i unlisted)) in
     let s = run-then d at (pieces (take i xs)) p e (piece (getD xs i unlisted)) f p k g (h .whole) refl refl (omega (arith, g .count, pieces-room xs i)) in
     let j : i + 1 ≡ suc i = omega arith in
-    record { whole = s .whole ∙ ap (λ (l : List ℕ). over at l d) (sym (ap (λ (m : ℕ). pieces (take m xs)) j ∙ pieces-on xs i));
-             count = omega (arith, h .count, s .count, ap length (ap (λ (m : ℕ). pieces (take m xs)) j ∙ pieces-on xs i)) }
+    record {
+      whole = s .whole ∙ ap (λ (l : List ℕ). over at l d) (sym (ap (λ (m : ℕ). pieces (take m xs)) j ∙ pieces-on xs i));
+      count = omega (arith, h .count, s .count, ap length (ap (λ (m : ℕ). pieces (take m xs)) j ∙ pieces-on xs i));
+    }
 
 pub run-all : (xs : List Listed) (i : ℕ) (d : List ℕ) (at p : ℕ) (e : List ℕ) → length xs ≤ i → Run d at (pieces (take i xs)) p e → Run d at (pieces xs) p e
 run-all xs i d at p e h g = subst (λ (l : List Listed). Run d at (pieces l) p e) (take-all i xs h) g
