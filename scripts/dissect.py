@@ -152,7 +152,9 @@ def dissect(messages):
     if run.returncode:
         sys.exit('dissect: tshark failed: ' + run.stderr.decode(errors='replace'))
     packets = [[] for _ in messages]
-    for packet in ET.fromstring(run.stdout):
+    # tshark lets through what XML forbids: a text's bytes are compared, its characters only where they can be shown
+    shown = re.sub('[^\t\n\r -\ud7ff\ue000-\ufffd]', '?', run.stdout.decode('utf-8', 'replace'))
+    for packet in ET.fromstring(shown):
         packets[int(named(packet, r'tcp\.stream')[0].get('show'))].append(packet)
     return packets
 
