@@ -1,0 +1,3 @@
+pub mod RepliesLaws
+pub mod CallsLaws
+pub mod SendsLaws

@@ -1,0 +1,13 @@
+use Rattle.calls.proofs.CallsLaws.{finish-is}
+use borrow.Author.Needs.{needs}
+use Rattle.calls.proofs.messages.finish_call.Statement.{statement}
+use Rattle.calls.proofs.messages.finish_call.Tie as tie
+
+pub finish-call-spec : {M : Type 1} → statement M
+finish-call-spec =
+    tie.close (tie.spec
+    (λ c κs. search needs)
+    (λ c κs. search needs)
+    (λ c κs. search needs)
+    (λ c. search needs)
+    (λ c. finish-is _ _ _ _ _ _ _ _ _ _ (c .before .before .before .write-reply .ensures) (c .before .before .before .before .before .before .before .time-of .ensures) (c .close .ensures)))

@@ -1,0 +1,5 @@
+pub mod StateLaws
+pub mod StreamsLaws
+pub mod CommandsLaws
+pub mod AnswersLaws
+pub mod DecidingLaws

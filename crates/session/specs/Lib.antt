@@ -1,0 +1,6 @@
+pub mod State
+pub mod Decisions
+pub mod Streams
+pub mod Commands
+pub mod Answers
+pub mod Deciding

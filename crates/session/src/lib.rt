@@ -1,0 +1,37 @@
+// The second room: what a session makes of a wish. Tables, names and numbers in, a decision with the next session out;
+// no bytes of a message, and none of a record.
+mod changes;
+mod commands;
+mod deciding;
+mod decision;
+mod decisions;
+mod session;
+mod streams;
+
+pub use commands::Room;
+pub use commands::connect;
+pub use commands::play;
+pub use commands::publish;
+pub use deciding::decide;
+pub use decision::CommandFault;
+pub use decision::Decision;
+pub use decision::Event;
+pub use decision::Reply;
+pub use decision::quiet;
+pub use decision::raised;
+pub use decision::refused;
+pub use decision::replied;
+pub use decisions::accept;
+pub use decisions::finish;
+pub use decisions::reject;
+pub use session::Session;
+pub use session::SessionState;
+pub use session::fresh_session;
+pub use session::is_connected;
+pub use session::session_sound;
+pub use streams::Frame;
+pub use streams::change_metadata;
+pub use streams::close_stream;
+pub use streams::create_stream;
+pub use streams::delete_stream;
+pub use streams::frame_of;

@@ -1,0 +1,6 @@
+pub mod ChoiceLaws
+pub mod ValuesLaws
+pub mod WishLaws
+pub mod CommandLaws
+pub mod DataFrameLaws
+pub mod SlashTheorems

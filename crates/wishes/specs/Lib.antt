@@ -1,0 +1,10 @@
+pub mod Outcome
+pub mod Wish
+pub mod Values
+pub mod Connect
+pub mod Streams
+pub mod Publish
+pub mod Play
+pub mod Commands
+pub mod DataFrame
+pub mod Control
