@@ -33,7 +33,7 @@ pub enum MediaKind {
 }
 
 // The records of a decision, and the answer.
-pub fn finish_call(
+pub(crate) fn finish_call(
     session: Session,
     decision: Decision,
     code: &[u8],

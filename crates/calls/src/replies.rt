@@ -82,7 +82,7 @@ fn write_fault(
     }
 }
 
-pub fn write_reply(
+pub(crate) fn write_reply(
     out: &mut [u8],
     reply: Reply,
     name: Name,

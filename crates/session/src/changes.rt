@@ -23,7 +23,7 @@ fn one_less(n: usize) -> usize
 }
 
 // A new stream, under the next number.
-pub fn with_stream(session: Session, stream: Stream) -> Session
+pub(crate) fn with_stream(session: Session, stream: Stream) -> Session
     requires { ⌜ (session .«next_stream» ≡ 4294967295 → ⊥) × (session .«stream_count» < 16) ⌝ }
     ensures { λ r. ⌜ r ≡ withStream session stream ⌝ }
 {
@@ -59,7 +59,7 @@ pub fn without_stream(session: Session, id: StreamId) -> Session
 }
 
 // A request, filed under the next number.
-pub fn with_request(session: Session, request: Request) -> Session
+pub(crate) fn with_request(session: Session, request: Request) -> Session
     requires { ⌜ (session .«next_request» ≡ 4294967295 → ⊥) × (session .«request_count» < 16) ⌝ }
     ensures { λ r. ⌜ r ≡ withRequest session request ⌝ }
 {
