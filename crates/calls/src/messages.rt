@@ -2,12 +2,9 @@
 use crate::answer::Answer;
 use crate::answer::MediaAnswer;
 use crate::answer::answer_of;
-use crate::answer::close;
 use crate::answer::refuse;
-use crate::replies::write_reply;
+use crate::replies::finish_call;
 use metadata::no_metadata;
-use record::time_of;
-use session::Decision;
 use session::Event;
 use session::Frame;
 use session::Session;
@@ -23,40 +20,18 @@ use wishes::command_wish;
 use wishes::control_wish;
 use wishes::data_wish;
 ghost use mathlib.Core.Path.{_≡_};
-ghost use Prim.Native.Nat.{_≤_};
-ghost use lib.ListN.{length};
-ghost use Rattle.calls.specs.Calls.{byType, finishing, frameAnswer, handleMedia, handleMessage, mediaEvent, wished};
+ghost use Rattle.calls.specs.Calls.{byType, frameAnswer, handleMedia, handleMessage, mediaEvent, wished};
 
 pub enum MediaKind {
     Audio,
     Video,
 }
 
-// The records of a decision, and the answer.
-pub(crate) fn finish_call(
-    session: Session,
-    decision: Decision,
-    code: &[u8],
-    description: &[u8],
-    clock: u64,
-    out: &mut [u8],
-) -> Answer
-    requires { ⌜ (length (now code) ≤ 256) × (length (now description) ≤ 256) ⌝ }
-    ensures { λ r. ⌜ (r, now (out .exit)) ≡ finishing session decision (now (code .entry)) (now (description .entry)) clock (now (out .entry)) ⌝ }
-{
-    let time = time_of(session.start, clock);
-    let reply = decision.reply;
-    let name = decision.name;
-    let next = decision.session;
-    let sent = write_reply(out, reply, name, next, code, description, time);
-    close(session, decision, sent)
-}
-
 fn by_wish(session: Session, stream: StreamId, clock: u64, out: &mut [u8], wish: Wish) -> Answer
     ensures { λ r. ⌜ (r, now (out .exit)) ≡ wished session stream clock (now (out .entry)) wish ⌝ }
 {
     let decision = decide(session, stream, wish);
-    finish_call(session, decision, b"", b"", clock, out)
+    finish_call(session, decision, clock, out)
 }
 
 fn frame_answer(session: Session, frame: Frame) -> Answer

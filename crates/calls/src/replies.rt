@@ -1,4 +1,6 @@
-// The third room: the records of a reply.
+// The third room: the records of a reply, and the answer.
+use crate::answer::Answer;
+use crate::answer::close;
 use answers::Sent;
 use answers::all_sent;
 use answers::connect_accepted;
@@ -8,17 +10,22 @@ use answers::play_accepted;
 use answers::play_finished;
 use answers::publish_accepted;
 use answers::stream_created;
+use record::time_of;
 use session::CommandFault;
 use session::Decision;
 use session::Reply;
 use session::Session;
+use session::reject;
 use text::Name;
+use text::RequestId;
 use text::StreamId;
 ghost use mathlib.Core.Path.{_≡_};
 ghost use mathlib.Core.List.{[]};
 ghost use Prim.Native.Nat.{_≤_};
 ghost use lib.ListN.{length};
 ghost use Rattle.answers.specs.Sending.{sent};
+ghost use Rattle.session.specs.Answers.{rejectRequest};
+ghost use Rattle.calls.specs.Calls.{finishing, short};
 ghost use Rattle.calls.specs.Replies.{faultRecord, replyRecords};
 
 // An answer without records always fits.
@@ -82,7 +89,7 @@ fn write_fault(
     }
 }
 
-pub(crate) fn write_reply(
+fn write_reply(
     out: &mut [u8],
     reply: Reply,
     name: Name,
@@ -123,4 +130,59 @@ pub(crate) fn write_reply(
             stream,
         } => error_record(out, transaction, code, description, time, stream),
     }
+}
+
+// The records of a decision, and the answer.
+fn finish_with(
+    session: Session,
+    decision: Decision,
+    code: &[u8],
+    description: &[u8],
+    clock: u64,
+    out: &mut [u8],
+) -> Answer
+    requires { ⌜ (length (now code) ≤ 256) × (length (now description) ≤ 256) ⌝ }
+    ensures { λ r. ⌜ (r, now (out .exit)) ≡ finishing session decision (now (code .entry)) (now (description .entry)) clock (now (out .entry)) ⌝ }
+{
+    let time = time_of(session.start, clock);
+    let reply = decision.reply;
+    let name = decision.name;
+    let next = decision.session;
+    let sent = write_reply(out, reply, name, next, code, description, time);
+    close(session, decision, sent)
+}
+
+// The records of a decision that has no texts of its own.
+pub fn finish_call(session: Session, decision: Decision, clock: u64, out: &mut [u8]) -> Answer
+    ensures { λ r. ⌜ (r, now (out .exit)) ≡ finishing session decision [] [] clock (now (out .entry)) ⌝ }
+{
+    finish_with(session, decision, b"", b"", clock, out)
+}
+
+// Whether neither is over 256 bytes.
+fn are_short(code: &[u8], description: &[u8]) -> bool
+    ensures { λ r. ⌜ r ≡ short (now (code .entry)) (now (description .entry)) ⌝ }
+{
+    if 256 < code.len() {
+        return false;
+    }
+    description.len() <= 256
+}
+
+// A reject, with the application's code and description; one that is refused writes neither.
+pub fn finish_reject(
+    session: Session,
+    id: RequestId,
+    code: &[u8],
+    description: &[u8],
+    clock: u64,
+    out: &mut [u8],
+) -> Answer
+    ensures { λ r. ⌜ (r, now (out .exit)) ≡ finishing session (rejectRequest session id (short (now (code .entry)) (now (description .entry)))) (now (code .entry)) (now (description .entry)) clock (now (out .entry)) ⌝ }
+{
+    if are_short(code, description) {
+        let decision = reject(session, id, true);
+        return finish_with(session, decision, code, description, clock, out);
+    }
+    finish_call(session, reject(session, id, false), clock, out)
 }

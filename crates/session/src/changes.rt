@@ -1,10 +1,7 @@
 // The changes that steps make to a session.
 use crate::session::Session;
 use crate::session::SessionState;
-use tables::Request;
 use tables::Stream;
-use tables::append_request;
-use tables::append_stream;
 use tables::change_stream;
 use tables::remove_request;
 use tables::remove_stream;
@@ -12,28 +9,14 @@ use text::Name;
 use text::RequestId;
 use text::StreamId;
 ghost use mathlib.Core.Path.{_≡_};
-ghost use Prim.Native.Nat.{_-_, _<_};
-ghost use Rattle.session.specs.State.{connectedTo, withChanged, withEncoding, withRequest, withStream, withoutRequest, withoutStream};
+ghost use Prim.Native.Nat.{_-_};
+ghost use Rattle.session.specs.State.{connectedTo, withChanged, withEncoding, withoutRequest, withoutStream};
 
 // A count after a removal.
 fn one_less(n: usize) -> usize
     ensures { λ r. ⌜ r ≡ n - 1 ⌝ }
 {
     if 0 < n { n - 1 } else { 0 }
-}
-
-// A new stream, under the next number.
-pub(crate) fn with_stream(session: Session, stream: Stream) -> Session
-    requires { ⌜ (session .«next_stream» ≡ 4294967295 → ⊥) × (session .«stream_count» < 16) ⌝ }
-    ensures { λ r. ⌜ r ≡ withStream session stream ⌝ }
-{
-    let streams = session.streams;
-    let more = append_stream(streams, session.stream_count, stream);
-    let mut t = session;
-    t.next_stream = session.next_stream + 1;
-    t.stream_count = session.stream_count + 1;
-    t.streams = more;
-    t
 }
 
 // The stream of a number becomes this one.
@@ -55,20 +38,6 @@ pub fn without_stream(session: Session, id: StreamId) -> Session
     let mut t = session;
     t.stream_count = one_less(session.stream_count);
     t.streams = left;
-    t
-}
-
-// A request, filed under the next number.
-pub(crate) fn with_request(session: Session, request: Request) -> Session
-    requires { ⌜ (session .«next_request» ≡ 4294967295 → ⊥) × (session .«request_count» < 16) ⌝ }
-    ensures { λ r. ⌜ r ≡ withRequest session request ⌝ }
-{
-    let requests = session.requests;
-    let more = append_request(requests, session.request_count, request);
-    let mut t = session;
-    t.next_request = session.next_request + 1;
-    t.request_count = session.request_count + 1;
-    t.requests = more;
     t
 }
 

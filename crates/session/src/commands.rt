@@ -1,6 +1,5 @@
 // Commands that file a request: connect, publish, play.
 use crate::changes::with_encoding;
-use crate::changes::with_request;
 use crate::decision::CommandFault;
 use crate::decision::Decision;
 use crate::decision::Event;
@@ -15,6 +14,7 @@ use numbers::PlayDuration;
 use numbers::PlayStartValue;
 use tables::Request;
 use tables::RequestKind;
+use tables::append_request;
 use text::Name;
 use text::PublishMode;
 use text::RequestId;
@@ -24,6 +24,7 @@ use wishes::Outcome;
 use wishes::PlayArguments;
 use wishes::PublishArguments;
 ghost use mathlib.Core.Path.{_≡_};
+ghost use Prim.Native.Nat.{_<_};
 ghost use Rattle.session.specs.Commands.{asking, connect as connectDecision, connectedFault, failing, nextRequest, play as playDecision, playRequest, publish as publishDecision, publishRequest, requestRoom};
 ghost use Rattle.session.specs.Decisions.{raising};
 ghost use Rattle.session.specs.State.{withRequest};
@@ -50,6 +51,20 @@ fn request_room(session: Session, fits: bool) -> Room
         return Room::Closed(Outcome::RequestsFull);
     }
     Room::Open
+}
+
+// A request, filed under the next number.
+fn with_request(session: Session, request: Request) -> Session
+    requires { ⌜ (session .«next_request» ≡ 4294967295 → ⊥) × (session .«request_count» < 16) ⌝ }
+    ensures { λ r. ⌜ r ≡ withRequest session request ⌝ }
+{
+    let requests = session.requests;
+    let more = append_request(requests, session.request_count, request);
+    let mut t = session;
+    t.next_request = session.next_request + 1;
+    t.request_count = session.request_count + 1;
+    t.requests = more;
+    t
 }
 
 pub fn connect(session: Session, transaction: u64, encoding: u64, fits: bool, app: Name) -> Decision

@@ -1,6 +1,5 @@
 // Steps that go by a stream: createStream, closeStream, deleteStream, metadata, audio and video.
 use crate::changes::with_changed;
-use crate::changes::with_stream;
 use crate::changes::without_stream;
 use crate::decision::Decision;
 use crate::decision::Event;
@@ -15,6 +14,7 @@ use metadata::StreamMetadata;
 use metadata::no_metadata;
 use tables::Stream;
 use tables::StreamState;
+use tables::append_stream;
 use tables::find_stream;
 use text::Name;
 use text::PublishMode;
@@ -22,6 +22,8 @@ use text::StreamId;
 use text::empty_name;
 use wishes::Outcome;
 ghost use mathlib.Core.Path.{_≡_};
+ghost use Prim.Native.Nat.{_<_};
+ghost use Rattle.session.specs.State.{withStream};
 ghost use Rattle.session.specs.Streams.{changeMetadata, closeStream, createStream, created, deleteStream, described, ended, frameOf, noFrame, shown};
 
 // An audio or a video event with its names; the session stays as it is.
@@ -41,6 +43,20 @@ pub fn created_stream(id: StreamId) -> Stream
         mode: PublishMode::Live,
         key,
     }
+}
+
+// A new stream, under the next number.
+fn with_stream(session: Session, stream: Stream) -> Session
+    requires { ⌜ (session .«next_stream» ≡ 4294967295 → ⊥) × (session .«stream_count» < 16) ⌝ }
+    ensures { λ r. ⌜ r ≡ withStream session stream ⌝ }
+{
+    let streams = session.streams;
+    let more = append_stream(streams, session.stream_count, stream);
+    let mut t = session;
+    t.next_stream = session.next_stream + 1;
+    t.stream_count = session.stream_count + 1;
+    t.streams = more;
+    t
 }
 
 pub fn create_stream(session: Session, transaction: u64) -> Decision

@@ -1,10 +1,10 @@
 use Rattle.calls.proofs.CallsLaws.{finish-is}
 use borrow.Author.Needs.{needs}
-use Rattle.calls.proofs.messages.finish_call.Statement.{statement}
-use Rattle.calls.proofs.messages.finish_call.Tie as tie
+use Rattle.calls.proofs.replies.finish_with.Statement.{statement}
+use Rattle.calls.proofs.replies.finish_with.Tie as tie
 
-pub finish-call-spec : {M : Type 1} → statement M
-finish-call-spec =
+pub finish-with-spec : {M : Type 1} → statement M
+finish-with-spec =
     tie.close (tie.spec
     (λ c κs. search needs)
     (λ c κs. search needs)

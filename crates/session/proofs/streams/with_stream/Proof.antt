@@ -1,7 +1,7 @@
 use Rattle.session.specs.State.{withStream}
 use borrow.Author.Needs.{needs}
-use Rattle.session.proofs.changes.with_stream.Statement.{statement}
-use Rattle.session.proofs.changes.with_stream.Tie as tie
+use Rattle.session.proofs.streams.with_stream.Statement.{statement}
+use Rattle.session.proofs.streams.with_stream.Tie as tie
 
 returns : tie.Need-returns
 unfolding withStream

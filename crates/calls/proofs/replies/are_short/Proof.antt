@@ -1,7 +1,7 @@
 use native.Mathlib.Omega.{arith}
 use Rattle.calls.proofs.SendsLaws.{code-long, code-short}
-use Rattle.calls.proofs.decisions.are_short.Statement.{statement}
-use Rattle.calls.proofs.decisions.are_short.Tie as tie
+use Rattle.calls.proofs.replies.are_short.Statement.{statement}
+use Rattle.calls.proofs.replies.are_short.Tie as tie
 
 pub are-short-spec : {M : Type 1} → statement M
 are-short-spec = tie.close (tie.spec

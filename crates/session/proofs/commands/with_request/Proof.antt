@@ -1,7 +1,7 @@
 use Rattle.session.specs.State.{withRequest}
 use borrow.Author.Needs.{needs}
-use Rattle.session.proofs.changes.with_request.Statement.{statement}
-use Rattle.session.proofs.changes.with_request.Tie as tie
+use Rattle.session.proofs.commands.with_request.Statement.{statement}
+use Rattle.session.proofs.commands.with_request.Tie as tie
 
 returns : tie.Need-returns
 unfolding withRequest
