@@ -1,3 +1,5 @@
 pub mod RepliesLaws
 pub mod CallsLaws
 pub mod SendsLaws
+pub mod DeterminedTheorems
+pub mod RefusalTheorems

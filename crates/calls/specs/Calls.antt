@@ -1,6 +1,6 @@
 -- The calls: the door, then read, decide and write.
 use Prim.Native.Nat.{ℕ}
-use mathlib.Core.Bool.{Bool, true, _&&_, _||_}
+use mathlib.Core.Bool.{Bool, _&&_, _||_}
 use mathlib.Core.List.{List, []}
 use lib.Dec.{eqb, leb, ltb}
 use lib.ListN.{length}

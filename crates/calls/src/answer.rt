@@ -4,7 +4,6 @@ use metadata::StreamMetadata;
 use metadata::no_metadata;
 use session::Decision;
 use session::Event;
-use session::Frame;
 use session::Session;
 use text::Name;
 use text::empty_name;

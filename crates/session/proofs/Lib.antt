@@ -3,3 +3,4 @@ pub mod StreamsLaws
 pub mod CommandsLaws
 pub mod AnswersLaws
 pub mod DecidingLaws
+pub mod RefusalTheorems

@@ -1,5 +1,4 @@
 -- The application's decisions: accept and reject a request, finish a play.
-use Prim.Native.Nat.{ℕ}
 use mathlib.Core.Bool.{Bool}
 use mathlib.Core.Option.{Option, some, none}
 use Rattle.numbers.specs.Choose.{pick}

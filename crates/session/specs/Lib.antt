@@ -4,3 +4,4 @@ pub mod Streams
 pub mod Commands
 pub mod Answers
 pub mod Deciding
+pub mod Pins

@@ -18,7 +18,7 @@ use Rattle.session.specs.Decisions.{quietly, raising, refusing, replying
 use Rattle.session.specs.State.{connected, streamOf, withChanged, withStream, withoutStream}
 use Rattle.session.specs.declared.decision.Decision.{Decision}
 use Rattle.session.specs.declared.decision.Event.{Event}
-use Rattle.session.specs.declared.decision.Event.the-variants.{NoEvent, PublishStreamFinished, PlayStreamFinished, StreamMetadataChanged, AudioDataReceived, VideoDataReceived}
+use Rattle.session.specs.declared.decision.Event.the-variants.{NoEvent, PublishStreamFinished, PlayStreamFinished, StreamMetadataChanged}
 use Rattle.session.specs.declared.decision.Reply.the-variants.{StreamCreated}
 use Rattle.session.specs.declared.session.Session.{Session}
 use Rattle.session.specs.declared.streams.Frame.{Frame}

@@ -35,7 +35,7 @@ module _ {A : Type 0} (number : A → ℕ) where
   closed blank rest past l (some x) = rest ++ blank ∷ past
   closed blank rest past l none = l
 
-  -- "a removal moves the later ones up and leaves a blank place at the end"
+  -- a removal moves the later ones up and leaves a blank place behind them
   unfoldable pub removed : A → ℕ → ℕ → List A → List A
   removed blank id n l = closed blank (remove id (take n l)) (drop n l) l (look id (take n l))
 

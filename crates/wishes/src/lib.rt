@@ -15,6 +15,7 @@ pub use control::control_wish;
 pub use data_frame::data_wish;
 pub use outcome::Action;
 pub use outcome::Outcome;
+pub use outcome::number_of;
 pub use wish::PlayArguments;
 pub use wish::PublishArguments;
 pub use wish::Want;
