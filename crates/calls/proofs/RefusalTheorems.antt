@@ -11,8 +11,12 @@ use Rattle.numbers.specs.Choose.{pick}
 use Rattle.numbers.specs.Fields.{front}
 use Rattle.text.specs.declared.ids.RequestId.{RequestId}
 use Rattle.text.specs.declared.ids.StreamId.{StreamId}
+use Rattle.text.specs.Names.{nameOf}
 use Rattle.record.specs.Clock.{timeOf}
+use Rattle.record.specs.Records.{media, startRecords}
 use Rattle.metadata.specs.Metadata.{noMetadata}
+use Rattle.metadata.specs.Writing.{metadataRecord}
+use Rattle.metadata.specs.declared.metadata.StreamMetadata.{StreamMetadata}
 use Rattle.answers.specs.Sending.{allSent, noRoom, sent}
 use Rattle.answers.specs.declared.sent.Sent.{Sent}
 use Rattle.wishes.specs.Commands.{commandWish}
@@ -20,11 +24,11 @@ use Rattle.wishes.specs.Control.{controlWish}
 use Rattle.wishes.specs.DataFrame.{dataWish}
 use Rattle.wishes.specs.declared.outcome.Action.{Action}
 use Rattle.wishes.specs.declared.outcome.Outcome.{Outcome}
-use Rattle.wishes.specs.declared.outcome.Outcome.the-variants.{BadSession, Done, NoRoom, WrongStream}
+use Rattle.wishes.specs.declared.outcome.Outcome.the-variants.{BadConfig, BadSession, BodyTooLong, Done, NameTooLong, NoRoom, WrongStream}
 use Rattle.session.specs.Answers.{acceptRequest, finishPlaying, rejectRequest}
 use Rattle.session.specs.Deciding.{decide}
-use Rattle.session.specs.Decisions.{refusing}
-use Rattle.session.specs.State.{sessionSound, withoutRequest}
+use Rattle.session.specs.Decisions.{quietly, refusing}
+use Rattle.session.specs.State.{appFits, freshSession, sessionSound, withoutRequest}
 use Rattle.session.specs.declared.decision.Decision.{Decision}
 use Rattle.session.specs.Streams.{frameOf}
 use Rattle.session.specs.declared.decision.Event.the-variants.{AudioDataReceived, VideoDataReceived}
@@ -32,11 +36,12 @@ use Rattle.session.specs.declared.session.Session.{Session}
 use Rattle.session.specs.declared.streams.Frame.{Frame}
 use Rattle.session.proofs.RefusalTheorems.{AcceptFate, Fate, accepted-fate, decided-fate, done as is-done, fate, finished-fate, gone, kept, rejected-fate}
 use Rattle.calls.proofs.RepliesLaws.{nothing-sent}
-use Rattle.calls.specs.Answers.{answerOf, answered, closed, refusal}
-use Rattle.calls.specs.Calls.{accepting, byType, finishes, finishing, frameAnswer, guarded, handleMedia, handleMessage, mediaAnswer, mediaRefusal, rejecting, short}
+use Rattle.calls.specs.Answers.{answered, closed, refusal, sendOf, sendRefusal, sending}
+use Rattle.calls.specs.Calls.{accepting, badConfig, blankSession, byType, finishes, finishing, frameAnswer, guarded, guardedSend, handleMedia, handleMessage, mediaAnswer, mediaRefusal, mediaSent, metadataSent, rejecting, sendsMedia, sendsMetadata, short, starting}
 use Rattle.calls.specs.Replies.{replyRecords}
 use Rattle.calls.specs.declared.answer.Answer.{Answer}
 use Rattle.calls.specs.declared.answer.MediaAnswer.{MediaAnswer}
+use Rattle.calls.specs.declared.answer.SendAnswer.{SendAnswer}
 use Rattle.calls.specs.declared.messages.MediaKind.the-variants.{Audio, Video}
 
 -- an answer is done, or it is a refusal that leaves the session and the buffer
@@ -137,3 +142,49 @@ module _ (s : Session) (x : StreamId) (timestamp clock : ℕ) (body out : List �
   pub video-alike : handleMessage s 9 x timestamp clock body out ≡ (fromMedia s (handleMedia s Video x timestamp), out)
   unfolding guarded byType handleMedia
   video-alike = alike s (frameOf s x (VideoDataReceived timestamp)) out (sessionSound s)
+
+-- ---- sends: done, or the buffer stays
+pub data SendLeaves (out : List ℕ) (p : SendAnswer × List ℕ) : Type 0 where
+  sent-done : p .0 .outcome ≡ Done → SendLeaves out p
+  sent-left : (o : Outcome) → p ≡ (sendRefusal o, out) → SendLeaves out p
+
+send-either : (out : List ℕ) (b : Bool) (p q : SendAnswer × List ℕ) → SendLeaves out p → SendLeaves out q → SendLeaves out (pick b p q)
+send-either out true p q f g = f
+send-either out false p q f g = g
+
+send-room : (records out : List ℕ) (b : Bool) → SendLeaves out (sendOf (pick {X = Sent × List ℕ} b (noRoom, out) (allSent (length records), front records out) .0), pick {X = Sent × List ℕ} b (noRoom, out) (allSent (length records), front records out) .1)
+send-room records out true = sent-left NoRoom refl
+send-room records out false = sent-done refl
+
+sending-leaves : (records out : List ℕ) → SendLeaves out (sending records out)
+unfolding sending sent
+sending-leaves records out = send-room records out (ltb (length out) (length records))
+
+send-door : (s : Session) (out : List ℕ) (p : SendAnswer × List ℕ) → SendLeaves out p → SendLeaves out (guardedSend s out p)
+unfolding guardedSend
+send-door s out p f = send-either out (sessionSound s) p (sendRefusal BadSession, out) f (sent-left BadSession refl)
+
+pub metadata-leaves : (s : Session) (x : StreamId) (m : StreamMetadata) (clock : ℕ) (out : List ℕ) → SendLeaves out (sendsMetadata s x m clock out)
+unfolding metadataSent
+metadata-leaves s x m clock out =
+    send-door s out (metadataSent x m (timeOf (s .start) clock) out)
+    (send-either out (appFits (m .«has_encoder») (m .encoder .len)) _ _ (sending-leaves (metadataRecord m (timeOf (s .start) clock) (x .0)) out) (sent-left NameTooLong refl))
+
+pub media-leaves : (type : ℕ) (s : Session) (x : StreamId) (timestamp : ℕ) (droppable : Bool) (body out : List ℕ) → SendLeaves out (sendsMedia type s x timestamp droppable body out)
+unfolding mediaSent
+media-leaves type s x timestamp droppable body out =
+    send-door s out (mediaSent type x timestamp droppable body out)
+    (send-either out (leb (length body) 16777215) _ _ (sending-leaves (media type timestamp (x .0) droppable body) out) (sent-left BodyTooLong refl))
+
+-- ---- a start that is refused hands back the blank session, and the buffer stays
+start-by : (chunk window bandwidth : ℕ) (finish : Bool) (version : List ℕ) (clock : ℕ) (out : List ℕ) (b : Bool)
+    → Leaves blankSession out (pick b (refusal BadConfig blankSession, out) (answered blankSession (quietly (freshSession clock (nameOf version))) (startRecords chunk window bandwidth finish) out))
+unfolding answered sent
+start-by chunk window bandwidth finish version clock out true = left BadConfig refl
+start-by chunk window bandwidth finish version clock out false =
+    let records = startRecords chunk window bandwidth finish in
+    by-room blankSession (quietly (freshSession clock (nameOf version))) records out (ltb (length out) (length records)) refl
+
+pub start-leaves : (chunk window bandwidth : ℕ) (finish : Bool) (version : List ℕ) (clock : ℕ) (out : List ℕ) → Leaves blankSession out (starting chunk window bandwidth finish version clock out)
+unfolding starting
+start-leaves chunk window bandwidth finish version clock out = start-by chunk window bandwidth finish version clock out (badConfig chunk version)
