@@ -3,3 +3,4 @@ pub mod CallsLaws
 pub mod SendsLaws
 pub mod DeterminedTheorems
 pub mod RefusalTheorems
+pub mod SoundTheorems

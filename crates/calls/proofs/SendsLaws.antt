@@ -6,7 +6,7 @@ use mathlib.Core.List.{List}
 use mathlib.Core.Option.{Option, some, none}
 use lib.Dec.{eqb, leb, ltb}
 use lib.ListN.{length}
-use borrow.Author.Tests.{eq-eqb, ne-eqb, le-leb, lt-leb, lt-ltb, le-ltb, leb-true}
+use borrow.Author.Tests.{eq-eqb, ne-eqb, le-leb, lt-leb, lt-ltb, le-ltb, leb-true, ltb-false}
 use Rattle.numbers.specs.Choose.{pick}
 use Rattle.text.specs.Names.{emptyName, nameOf, nameRead}
 use Rattle.text.specs.declared.ids.RequestId.{RequestId}
@@ -126,6 +126,9 @@ by-version chunk version n h = simp (ne-eqb chunk 0 n, le-ltb 2147483647 chunk h
 neither : (a b : Bool) → a || b ≡ false → b ≡ false
 neither false b e = e
 neither true b e = absurd (true≢false e)
+
+pub version-short : (chunk : ℕ) (version : List ℕ) → badConfig chunk version ≡ false → length version ≤ 128
+version-short chunk version e = ltb-false 128 (length version) (neither (ltb 2147483647 chunk) _ (neither (eqb chunk 0) _ e))
 
 good-version : (chunk : ℕ) (version : List ℕ) → badConfig chunk version ≡ false → nameRead version .name ≡ nameOf version
 unfolding nameRead

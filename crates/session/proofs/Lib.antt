@@ -4,3 +4,4 @@ pub mod CommandsLaws
 pub mod AnswersLaws
 pub mod DecidingLaws
 pub mod RefusalTheorems
+pub mod SoundTheorems

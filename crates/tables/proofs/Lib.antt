@@ -1,3 +1,4 @@
 pub mod TablesLaws
 pub mod SoundLaws
 pub mod EntriesLaws
+pub mod KeptTheorems

@@ -11,7 +11,7 @@ use Rattle.text.specs.declared.names.Name.{Name}
 use Rattle.tables.specs.Tables.{has, risesFrom, sound, tableSound}
 use Rattle.tables.proofs.TablesLaws.{next-entry, no-entry}
 
-both : (a b : Bool) → a && b ≡ true → (a ≡ true) × (b ≡ true)
+pub both : (a b : Bool) → a && b ≡ true → (a ≡ true) × (b ≡ true)
 both true b e = (refl, e)
 both false b e = let z : _≡_ {A = Bool} false true = e in (z, let y : _≡_ {A = ℕ} 0 1 = cc in absurd (omega arith))
 

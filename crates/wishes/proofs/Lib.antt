@@ -4,3 +4,4 @@ pub mod WishLaws
 pub mod CommandLaws
 pub mod DataFrameLaws
 pub mod SlashTheorems
+pub mod NameTheorems
