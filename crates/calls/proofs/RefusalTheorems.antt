@@ -13,7 +13,7 @@ use Rattle.text.specs.declared.ids.RequestId.{RequestId}
 use Rattle.text.specs.declared.ids.StreamId.{StreamId}
 use Rattle.text.specs.Names.{nameOf}
 use Rattle.record.specs.Clock.{timeOf}
-use Rattle.record.specs.Records.{media, startRecords}
+use Rattle.record.specs.Records.{media, pingRequest, startRecords}
 use Rattle.metadata.specs.Metadata.{noMetadata}
 use Rattle.metadata.specs.Writing.{metadataRecord}
 use Rattle.metadata.specs.declared.metadata.StreamMetadata.{StreamMetadata}
@@ -37,10 +37,11 @@ use Rattle.session.specs.declared.streams.Frame.{Frame}
 use Rattle.session.proofs.RefusalTheorems.{AcceptFate, Fate, accepted-fate, decided-fate, done as is-done, fate, finished-fate, gone, kept, rejected-fate}
 use Rattle.calls.proofs.RepliesLaws.{nothing-sent}
 use Rattle.calls.specs.Answers.{answered, closed, refusal, sendOf, sendRefusal, sending}
-use Rattle.calls.specs.Calls.{accepting, badConfig, blankSession, byType, finishes, finishing, frameAnswer, guarded, guardedSend, handleMedia, handleMessage, mediaAnswer, mediaRefusal, mediaSent, metadataSent, rejecting, sendsMedia, sendsMetadata, short, starting}
+use Rattle.calls.specs.Calls.{accepting, badConfig, blankSession, byType, finishes, finishing, frameAnswer, guarded, guardedSend, handleMedia, handleMessage, mediaAnswer, mediaRefusal, mediaSent, metadataSent, pingOf, pinged, rejecting, sendsMedia, sendsMetadata, sendsPing, short, starting}
 use Rattle.calls.specs.Replies.{replyRecords}
 use Rattle.calls.specs.declared.answer.Answer.{Answer}
 use Rattle.calls.specs.declared.answer.MediaAnswer.{MediaAnswer}
+use Rattle.calls.specs.declared.answer.PingAnswer.{PingAnswer}
 use Rattle.calls.specs.declared.answer.SendAnswer.{SendAnswer}
 use Rattle.calls.specs.declared.messages.MediaKind.the-variants.{Audio, Video}
 
@@ -188,3 +189,31 @@ start-by chunk window bandwidth finish version clock out false =
 pub start-leaves : (chunk window bandwidth : ℕ) (finish : Bool) (version : List ℕ) (clock : ℕ) (out : List ℕ) → Leaves blankSession out (starting chunk window bandwidth finish version clock out)
 unfolding starting
 start-leaves chunk window bandwidth finish version clock out = start-by chunk window bandwidth finish version clock out (badConfig chunk version)
+
+pub data PingLeaves (out : List ℕ) (p : PingAnswer × List ℕ) : Type 0 where
+  ping-done : p .0 .outcome ≡ Done → PingLeaves out p
+  ping-left : (o : Outcome) → p ≡ (record { outcome = o; count = 0; timestamp = 0 }, out) → PingLeaves out p
+
+ping-room : (time : ℕ) (records out : List ℕ) (b : Bool) → PingLeaves out (pingOf time (pick {X = Sent × List ℕ} b (noRoom, out) (allSent (length records), front records out) .0), pick {X = Sent × List ℕ} b (noRoom, out) (allSent (length records), front records out) .1)
+ping-room time records out true = ping-left NoRoom refl
+ping-room time records out false = ping-done refl
+
+ping-by : (time : ℕ) (out : List ℕ) (b : Bool) → PingLeaves out (pick b (pinged time out) (record { outcome = BadSession; count = 0; timestamp = 0 }, out))
+unfolding sent
+ping-by time out true = ping-room time (pingRequest time) out (ltb (length out) (length (pingRequest time)))
+ping-by time out false = ping-left BadSession refl
+
+pub ping-leaves : (s : Session) (clock : ℕ) (out : List ℕ) → PingLeaves out (sendsPing s clock out)
+unfolding sendsPing
+ping-leaves s clock out = ping-by (timeOf (s .start) clock) out (sessionSound s)
+
+-- ---- and of a send that is done, as of a decision
+send-count : (records out : List ℕ) (b : Bool)
+    → sendOf (pick {X = Sent × List ℕ} b (noRoom, out) (allSent (length records), front records out) .0) .outcome ≡ Done
+    → (sendOf (pick {X = Sent × List ℕ} b (noRoom, out) (allSent (length records), front records out) .0) .count ≡ length records) × (pick {X = Sent × List ℕ} b (noRoom, out) (allSent (length records), front records out) .1 ≡ front records out)
+send-count records out true e = let z : _≡_ {A = ℕ} 0 1 = cc in absurd (omega arith)
+send-count records out false e = (refl, refl)
+
+pub sent-whole : (records out : List ℕ) → sending records out .0 .outcome ≡ Done → (sending records out .0 .count ≡ length records) × (sending records out .1 ≡ front records out)
+unfolding sending sent
+sent-whole records out e = send-count records out (ltb (length out) (length records)) e

@@ -3,5 +3,6 @@ pub mod StreamsLaws
 pub mod CommandsLaws
 pub mod AnswersLaws
 pub mod DecidingLaws
+pub mod NamesLaws
 pub mod RefusalTheorems
 pub mod SoundTheorems

@@ -4,4 +4,5 @@ pub mod Streams
 pub mod Commands
 pub mod Answers
 pub mod Deciding
+pub mod Names
 pub mod Pins

@@ -5,6 +5,7 @@ mod commands;
 mod deciding;
 mod decision;
 mod decisions;
+mod names;
 mod session;
 mod streams;
 
@@ -24,6 +25,8 @@ pub use decision::replied;
 pub use decisions::accept;
 pub use decisions::finish;
 pub use decisions::reject;
+pub use names::action_name;
+pub use names::event_name;
 pub use session::Session;
 pub use session::SessionState;
 pub use session::fresh_session;
