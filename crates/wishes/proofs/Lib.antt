@@ -5,3 +5,4 @@ pub mod CommandLaws
 pub mod DataFrameLaws
 pub mod SlashTheorems
 pub mod NameTheorems
+pub mod NumberTheorems
