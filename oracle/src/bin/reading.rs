@@ -1,7 +1,7 @@
 //! A second reading of document 01: a trace comes in on standard input, its text goes out on standard output.
 //!
-//! Written from document 01, the trace's format and the decisions on open places alone, and from the source's codes and
-//! texts; it shares no line with the proved session and works another way. A body is read into a tree of values, a step
+//! Written from document 01, the trace's format and the decisions on open places, and from the source's codes and
+//! texts. It began as vectors/plate.rs, each part of which was held to document 01 again. It shares no line with the proved session and works another way. A body is read into a tree of values, a step
 //! makes its records first and the room is looked at when the bytes are there to be counted, and every step works on a
 //! copy of the session that is thrown away where the step is refused.
 //!
