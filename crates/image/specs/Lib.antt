@@ -1,0 +1,4 @@
+pub mod Cases
+pub mod Image
+pub mod Places
+pub mod Quick

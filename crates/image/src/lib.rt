@@ -1,0 +1,17 @@
+// A session as a host holds it: four arrays of numbers and bytes, in memory of its own.
+//
+// A host has no enums, so each case has a number. Whatever stands in the arrays is some session, or is found not to be
+// one: nothing that a host writes into them is trusted.
+mod cases;
+mod reading;
+mod sound;
+mod writing;
+
+pub use cases::kind_number;
+pub use cases::mode_number;
+pub use cases::state_number;
+pub use reading::find_row;
+pub use reading::read_session;
+pub use sound::image_sound;
+pub use sound::readable;
+pub use writing::write_session;
