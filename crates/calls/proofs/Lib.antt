@@ -1,6 +1,4 @@
-pub mod RepliesLaws
-pub mod CallsLaws
-pub mod SendsLaws
+pub mod StartsLaws
 pub mod DeterminedTheorems
 pub mod RefusalTheorems
 pub mod SoundTheorems

@@ -1,10 +1,10 @@
 -- "Every refusal leaves session and out buffer unchanged and raises nothing; only 11 from an accept removes the request. .. With 0, bytes past the written count stay as they were."
-use mathlib.Core.Path.{_≡_, refl, sym, ap, _∙_, subst}
+use mathlib.Core.Path.{_≡_, refl, sym, ap, _∙_}
 use Prim.Native.Nat.{ℕ}
 use native.Mathlib.Omega.{arith}
 use mathlib.Core.Bool.{Bool, true, false}
 use mathlib.Core.List.{List, []}
-use lib.Dec.{eqb, leb, ltb}
+use lib.Dec.{eqb, ltb}
 use lib.ListN.{length, drop}
 use lib.Seq.{drop-append-seam}
 use Rattle.numbers.specs.Choose.{pick}
@@ -13,10 +13,8 @@ use Rattle.text.specs.declared.ids.RequestId.{RequestId}
 use Rattle.text.specs.declared.ids.StreamId.{StreamId}
 use Rattle.text.specs.Names.{nameOf}
 use Rattle.record.specs.Clock.{timeOf}
-use Rattle.record.specs.Records.{media, pingRequest, startRecords}
+use Rattle.record.specs.Records.{startRecords}
 use Rattle.metadata.specs.Metadata.{noMetadata}
-use Rattle.metadata.specs.Writing.{metadataRecord}
-use Rattle.metadata.specs.declared.metadata.StreamMetadata.{StreamMetadata}
 use Rattle.answers.specs.Sending.{allSent, noRoom, sent}
 use Rattle.answers.specs.declared.sent.Sent.{Sent}
 use Rattle.wishes.specs.Commands.{commandWish}
@@ -24,26 +22,28 @@ use Rattle.wishes.specs.Control.{controlWish}
 use Rattle.wishes.specs.DataFrame.{dataWish}
 use Rattle.wishes.specs.declared.outcome.Action.{Action}
 use Rattle.wishes.specs.declared.outcome.Outcome.{Outcome}
-use Rattle.wishes.specs.declared.outcome.Outcome.the-variants.{BadConfig, BadSession, BodyTooLong, Done, NameTooLong, NoRoom, WrongStream}
-use Rattle.session.specs.Answers.{acceptRequest, finishPlaying, rejectRequest}
-use Rattle.session.specs.Deciding.{decide}
+use Rattle.wishes.specs.declared.outcome.Outcome.the-variants.{BadConfig, BadSession, Done, NoRoom, WrongStream}
 use Rattle.session.specs.Decisions.{quietly, refusing}
-use Rattle.session.specs.State.{appFits, freshSession, sessionSound, withoutRequest}
+use Rattle.session.specs.State.{freshSession, sessionSound, withoutRequest}
 use Rattle.session.specs.declared.decision.Decision.{Decision}
-use Rattle.session.specs.Streams.{frameOf}
 use Rattle.session.specs.declared.decision.Event.the-variants.{AudioDataReceived, VideoDataReceived}
 use Rattle.session.specs.declared.session.Session.{Session}
-use Rattle.session.specs.declared.streams.Frame.{Frame}
-use Rattle.session.proofs.RefusalTheorems.{AcceptFate, Fate, accepted-fate, decided-fate, done as is-done, fate, finished-fate, gone, kept, rejected-fate}
-use Rattle.calls.proofs.RepliesLaws.{nothing-sent}
-use Rattle.calls.specs.Answers.{answered, closed, refusal, sendOf, sendRefusal, sending}
-use Rattle.calls.specs.Calls.{accepting, badConfig, blankSession, byType, finishes, finishing, frameAnswer, guarded, guardedSend, handleMedia, handleMessage, mediaAnswer, mediaRefusal, mediaSent, metadataSent, pingOf, pinged, rejecting, sendsMedia, sendsMetadata, sendsPing, short, starting}
-use Rattle.calls.specs.Replies.{replyRecords}
-use Rattle.calls.specs.declared.answer.Answer.{Answer}
-use Rattle.calls.specs.declared.answer.MediaAnswer.{MediaAnswer}
-use Rattle.calls.specs.declared.answer.PingAnswer.{PingAnswer}
-use Rattle.calls.specs.declared.answer.SendAnswer.{SendAnswer}
-use Rattle.calls.specs.declared.messages.MediaKind.the-variants.{Audio, Video}
+use Rattle.session.proofs.RefusalTheorems.{Fate, done as is-done, kept}
+use Rattle.streams.specs.Streams.{frameOf}
+use Rattle.streams.specs.declared.streams.Frame.{Frame}
+use Rattle.steps.specs.Deciding.{decide}
+use Rattle.steps.proofs.RefusalTheorems.{decided-fate}
+use Rattle.decisions.specs.Answers.{acceptRequest, finishPlaying, rejectRequest}
+use Rattle.decisions.proofs.RefusalTheorems.{AcceptFate, accepted-fate, fate, finished-fate, gone, rejected-fate}
+use Rattle.replies.proofs.RepliesLaws.{nothing-sent}
+use Rattle.replies.specs.Answers.{answered, closed, refusal}
+use Rattle.replies.specs.Finishing.{finishing, short}
+use Rattle.replies.specs.Replies.{replyRecords}
+use Rattle.replies.specs.declared.answer.Answer.{Answer}
+use Rattle.messages.specs.Messages.{byType, frameAnswer, guarded, handleMedia, handleMessage, mediaAnswer, mediaRefusal}
+use Rattle.messages.specs.declared.messages.MediaAnswer.{MediaAnswer}
+use Rattle.messages.specs.declared.messages.MediaKind.the-variants.{Audio, Video}
+use Rattle.calls.specs.Calls.{accepting, badConfig, blankSession, finishes, rejecting, starting}
 
 -- an answer is done, or it is a refusal that leaves the session and the buffer
 pub data Leaves (s : Session) (out : List ℕ) (p : Answer × List ℕ) : Type 0 where
@@ -144,39 +144,6 @@ module _ (s : Session) (x : StreamId) (timestamp clock : ℕ) (body out : List �
   unfolding guarded byType handleMedia
   video-alike = alike s (frameOf s x (VideoDataReceived timestamp)) out (sessionSound s)
 
--- ---- sends: done, or the buffer stays
-pub data SendLeaves (out : List ℕ) (p : SendAnswer × List ℕ) : Type 0 where
-  sent-done : p .0 .outcome ≡ Done → SendLeaves out p
-  sent-left : (o : Outcome) → p ≡ (sendRefusal o, out) → SendLeaves out p
-
-send-either : (out : List ℕ) (b : Bool) (p q : SendAnswer × List ℕ) → SendLeaves out p → SendLeaves out q → SendLeaves out (pick b p q)
-send-either out true p q f g = f
-send-either out false p q f g = g
-
-send-room : (records out : List ℕ) (b : Bool) → SendLeaves out (sendOf (pick {X = Sent × List ℕ} b (noRoom, out) (allSent (length records), front records out) .0), pick {X = Sent × List ℕ} b (noRoom, out) (allSent (length records), front records out) .1)
-send-room records out true = sent-left NoRoom refl
-send-room records out false = sent-done refl
-
-sending-leaves : (records out : List ℕ) → SendLeaves out (sending records out)
-unfolding sending sent
-sending-leaves records out = send-room records out (ltb (length out) (length records))
-
-send-door : (s : Session) (out : List ℕ) (p : SendAnswer × List ℕ) → SendLeaves out p → SendLeaves out (guardedSend s out p)
-unfolding guardedSend
-send-door s out p f = send-either out (sessionSound s) p (sendRefusal BadSession, out) f (sent-left BadSession refl)
-
-pub metadata-leaves : (s : Session) (x : StreamId) (m : StreamMetadata) (clock : ℕ) (out : List ℕ) → SendLeaves out (sendsMetadata s x m clock out)
-unfolding metadataSent
-metadata-leaves s x m clock out =
-    send-door s out (metadataSent x m (timeOf (s .start) clock) out)
-    (send-either out (appFits (m .«has_encoder») (m .encoder .len)) _ _ (sending-leaves (metadataRecord m (timeOf (s .start) clock) (x .0)) out) (sent-left NameTooLong refl))
-
-pub media-leaves : (type : ℕ) (s : Session) (x : StreamId) (timestamp : ℕ) (droppable : Bool) (body out : List ℕ) → SendLeaves out (sendsMedia type s x timestamp droppable body out)
-unfolding mediaSent
-media-leaves type s x timestamp droppable body out =
-    send-door s out (mediaSent type x timestamp droppable body out)
-    (send-either out (leb (length body) 16777215) _ _ (sending-leaves (media type timestamp (x .0) droppable body) out) (sent-left BodyTooLong refl))
-
 -- ---- a start that is refused hands back the blank session, and the buffer stays
 start-by : (chunk window bandwidth : ℕ) (finish : Bool) (version : List ℕ) (clock : ℕ) (out : List ℕ) (b : Bool)
     → Leaves blankSession out (pick b (refusal BadConfig blankSession, out) (answered blankSession (quietly (freshSession clock (nameOf version))) (startRecords chunk window bandwidth finish) out))
@@ -189,31 +156,3 @@ start-by chunk window bandwidth finish version clock out false =
 pub start-leaves : (chunk window bandwidth : ℕ) (finish : Bool) (version : List ℕ) (clock : ℕ) (out : List ℕ) → Leaves blankSession out (starting chunk window bandwidth finish version clock out)
 unfolding starting
 start-leaves chunk window bandwidth finish version clock out = start-by chunk window bandwidth finish version clock out (badConfig chunk version)
-
-pub data PingLeaves (out : List ℕ) (p : PingAnswer × List ℕ) : Type 0 where
-  ping-done : p .0 .outcome ≡ Done → PingLeaves out p
-  ping-left : (o : Outcome) → p ≡ (record { outcome = o; count = 0; timestamp = 0 }, out) → PingLeaves out p
-
-ping-room : (time : ℕ) (records out : List ℕ) (b : Bool) → PingLeaves out (pingOf time (pick {X = Sent × List ℕ} b (noRoom, out) (allSent (length records), front records out) .0), pick {X = Sent × List ℕ} b (noRoom, out) (allSent (length records), front records out) .1)
-ping-room time records out true = ping-left NoRoom refl
-ping-room time records out false = ping-done refl
-
-ping-by : (time : ℕ) (out : List ℕ) (b : Bool) → PingLeaves out (pick b (pinged time out) (record { outcome = BadSession; count = 0; timestamp = 0 }, out))
-unfolding sent
-ping-by time out true = ping-room time (pingRequest time) out (ltb (length out) (length (pingRequest time)))
-ping-by time out false = ping-left BadSession refl
-
-pub ping-leaves : (s : Session) (clock : ℕ) (out : List ℕ) → PingLeaves out (sendsPing s clock out)
-unfolding sendsPing
-ping-leaves s clock out = ping-by (timeOf (s .start) clock) out (sessionSound s)
-
--- ---- and of a send that is done, as of a decision
-send-count : (records out : List ℕ) (b : Bool)
-    → sendOf (pick {X = Sent × List ℕ} b (noRoom, out) (allSent (length records), front records out) .0) .outcome ≡ Done
-    → (sendOf (pick {X = Sent × List ℕ} b (noRoom, out) (allSent (length records), front records out) .0) .count ≡ length records) × (pick {X = Sent × List ℕ} b (noRoom, out) (allSent (length records), front records out) .1 ≡ front records out)
-send-count records out true e = let z : _≡_ {A = ℕ} 0 1 = cc in absurd (omega arith)
-send-count records out false e = (refl, refl)
-
-pub sent-whole : (records out : List ℕ) → sending records out .0 .outcome ≡ Done → (sending records out .0 .count ≡ length records) × (sending records out .1 ≡ front records out)
-unfolding sending sent
-sent-whole records out e = send-count records out (ltb (length out) (length records)) e

@@ -19,18 +19,22 @@ use Rattle.wishes.specs.DataFrame.{dataWish}
 use Rattle.wishes.specs.declared.outcome.Outcome.the-variants.{BadConfig, BadSession, NoRoom}
 use Rattle.wishes.specs.declared.wish.Wish.{Wish}
 use Rattle.wishes.proofs.NameTheorems.{command-short, control-short, data-short}
-use Rattle.session.specs.Answers.{acceptRequest, finishPlaying, rejectRequest}
-use Rattle.session.specs.Deciding.{decide}
 use Rattle.session.specs.Decisions.{quietly}
 use Rattle.session.specs.State.{freshSession, sessionSound}
 use Rattle.session.specs.declared.decision.Decision.{Decision}
 use Rattle.session.specs.declared.session.Session.{Session}
-use Rattle.session.proofs.SoundTheorems.{Sound, accepted-sound, decided-sound, finished-sound, fresh-sound, is-sound, rejected-sound, says-sound}
-use Rattle.calls.specs.Answers.{answerOf, answered, refusal}
-use Rattle.calls.specs.Calls.{accepting, badConfig, blankSession, byType, finishes, finishing, guarded, handleMessage, rejecting, short, starting, wished}
-use Rattle.calls.specs.Replies.{replyRecords}
-use Rattle.calls.specs.declared.answer.Answer.{Answer}
-use Rattle.calls.proofs.SendsLaws.{version-short}
+use Rattle.session.proofs.SoundTheorems.{Sound, fresh-sound, is-sound, says-sound}
+use Rattle.steps.specs.Deciding.{decide}
+use Rattle.steps.proofs.SoundTheorems.{decided-sound}
+use Rattle.decisions.specs.Answers.{acceptRequest, finishPlaying, rejectRequest}
+use Rattle.decisions.proofs.SoundTheorems.{accepted-sound, finished-sound, rejected-sound}
+use Rattle.replies.specs.Answers.{answerOf, answered, refusal}
+use Rattle.replies.specs.Finishing.{finishing, short}
+use Rattle.replies.specs.Replies.{replyRecords}
+use Rattle.replies.specs.declared.answer.Answer.{Answer}
+use Rattle.messages.specs.Messages.{byType, guarded, handleMessage, wished}
+use Rattle.calls.specs.Calls.{accepting, badConfig, blankSession, finishes, rejecting, starting}
+use Rattle.calls.proofs.StartsLaws.{version-short}
 
 abbrev Stays : Answer × List ℕ → Type 0
 Stays p = Sound (p .0 .session)

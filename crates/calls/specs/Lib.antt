@@ -1,3 +1,2 @@
-pub mod Answers
-pub mod Replies
 pub mod Calls
+pub mod Pins

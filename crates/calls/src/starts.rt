@@ -1,8 +1,8 @@
 // The start of a session.
-use crate::answer::Answer;
-use crate::answer::close;
-use crate::answer::refuse;
 use answers::start_records;
+use replies::Answer;
+use replies::close;
+use replies::refuse;
 use session::Session;
 use session::fresh_session;
 use session::quiet;

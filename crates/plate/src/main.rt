@@ -1,11 +1,11 @@
 // Runs document 01's pins of whole sessions through the public calls. Standard input has the calls, each behind its
-// length in two bytes: a kind, the room that is lent, and the call's arguments, as the functions of steps.rt read them.
+// length in two bytes: a kind, the room that is lent, and the call's arguments, as the functions of calling.rt read them.
+mod calling;
 mod show;
-mod steps;
 
+use calling::step;
 use libc::STDIN_FILENO;
 use session::Session;
-use steps::step;
 
 struct Turn {
     more: bool,

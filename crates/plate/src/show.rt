@@ -1,10 +1,10 @@
 // One line for each call: its name, document 01's number, the event with its fields, and what was written.
-use calls::Answer;
-use calls::SendAnswer;
 use libc::STDOUT_FILENO;
 use metadata::StreamMetadata;
 use numbers::PlayDuration;
 use numbers::PlayStartValue;
+use replies::Answer;
+use sending::SendAnswer;
 use session::Event;
 use text::Name;
 use text::PublishMode;

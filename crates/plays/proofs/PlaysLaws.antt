@@ -3,9 +3,9 @@ use mathlib.Core.Path.{_≡_, ap, _∙_}
 use Prim.Native.Nat.{ℕ}
 use mathlib.Core.List.{List}
 use Rattle.session.specs.declared.session.Session.{Session}
-use Rattle.calls.specs.declared.answer.Answer.{Answer}
+use Rattle.replies.specs.declared.answer.Answer.{Answer}
 use Rattle.plays.specs.Plays.{answerTurn, stays, turnOf}
-use Rattle.plays.specs.declared.decisions.Turn.{Turn}
+use Rattle.plays.specs.declared.turns.Turn.{Turn}
 
 -- ---- turns
 pub turn-is : (s : Session) (n : ℕ) (r : Turn) (line : List ℕ) (q : ℕ × List ℕ) → r ≡ stays s n → _≡_ {A = ℕ × List ℕ} (n, line) q → _≡_ {A = Turn × List ℕ} (r, line) (turnOf s q)

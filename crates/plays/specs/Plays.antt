@@ -15,13 +15,15 @@ use Rattle.text.specs.declared.ids.StreamId.{StreamId}
 use Rattle.text.specs.declared.names.Name.{Name}
 use Rattle.metadata.specs.declared.metadata.StreamMetadata.{StreamMetadata}
 use Rattle.session.specs.declared.session.Session.{Session}
-use Rattle.calls.specs.Calls.{accepting, finishes, handleMessage, rejecting, sendsMedia, sendsMetadata, sendsPing, starting}
-use Rattle.calls.specs.declared.answer.Answer.{Answer}
-use Rattle.calls.specs.declared.answer.PingAnswer.{PingAnswer}
-use Rattle.calls.specs.declared.answer.SendAnswer.{SendAnswer}
+use Rattle.sending.specs.Sends.{sendsMedia, sendsMetadata, sendsPing}
+use Rattle.sending.specs.declared.answer.PingAnswer.{PingAnswer}
+use Rattle.sending.specs.declared.answer.SendAnswer.{SendAnswer}
+use Rattle.replies.specs.declared.answer.Answer.{Answer}
+use Rattle.messages.specs.Messages.{handleMessage}
+use Rattle.calls.specs.Calls.{accepting, finishes, rejecting, starting}
 use Rattle.spelling.specs.Text.{putAll}
 use Rattle.reports.specs.AnswerLine.{answerText, pingLine, sendText}
-use Rattle.plays.specs.declared.decisions.Turn.{Turn}
+use Rattle.plays.specs.declared.turns.Turn.{Turn}
 
 abbrev pub stays : Session → ℕ → Turn
 stays s count = record { session = s; count = count }

@@ -80,7 +80,7 @@ pub fn play_metadata(s: Session, e: &[u8], out: &mut [u8], line: &mut [u8]) -> u
 {
     let stream = StreamId(u32_at(e, 1));
     let clock = u64_at(e, 5);
-    let answer = calls::send_metadata(s, stream, metadata_in(e), clock, out);
+    let answer = sending::send_metadata(s, stream, metadata_in(e), clock, out);
     let outcome = answer.outcome;
     put_sent(line, b"metadata", outcome, answer.count, out)
 }
@@ -94,11 +94,11 @@ pub fn play_media(s: Session, e: &[u8], out: &mut [u8], line: &mut [u8]) -> usiz
     let n = u32_at(e, 15) as usize;
     let body = part_of(e, 19, n);
     if byte_at(e, 1) == 8 {
-        let answer = calls::send_audio_data(s, stream, timestamp, droppable, body, out);
+        let answer = sending::send_audio_data(s, stream, timestamp, droppable, body, out);
         let outcome = answer.outcome;
         return put_sent(line, b"media", outcome, answer.count, out);
     }
-    let answer = calls::send_video_data(s, stream, timestamp, droppable, body, out);
+    let answer = sending::send_video_data(s, stream, timestamp, droppable, body, out);
     let outcome = answer.outcome;
     put_sent(line, b"media", outcome, answer.count, out)
 }
@@ -106,7 +106,7 @@ pub fn play_media(s: Session, e: &[u8], out: &mut [u8], line: &mut [u8]) -> usiz
 pub fn play_ping(s: Session, e: &[u8], out: &mut [u8], line: &mut [u8]) -> usize
     ensures { λ r. ⌜ (r, now (line .exit)) ≡ putAll (pingedLine s (now (e .entry)) (now (out .entry))) (0, now (line .entry)) ⌝ }
 {
-    let answer = calls::send_ping_request(s, u64_at(e, 1), out);
+    let answer = sending::send_ping_request(s, u64_at(e, 1), out);
     let outcome = answer.outcome;
     put_ping(line, outcome, answer.timestamp, answer.count, out)
 }

@@ -13,7 +13,7 @@ use Rattle.session.specs.declared.session.Session.{Session}
 use Rattle.entries.specs.Entries.{kindOf, roomOf}
 use Rattle.entries.specs.declared.kinds.Kind.{Kind}
 use Rattle.plays.specs.Plays.{stays, turnOf}
-use Rattle.plays.specs.declared.decisions.Turn.{Turn}
+use Rattle.plays.specs.declared.turns.Turn.{Turn}
 use Rattle.replay.specs.Replay.{kindPlayed, played}
 
 -- ---- what is played for the kind that was found is played for the entry

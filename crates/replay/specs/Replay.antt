@@ -13,7 +13,7 @@ use Rattle.entries.specs.declared.kinds.Kind.the-variants.{Start, Message, Acce
 use Rattle.states.specs.State.{stateText}
 use Rattle.damage.specs.Damage.{damaged}
 use Rattle.plays.specs.Plays.{acceptPlayed, finishPlayed, mediaLine, messagePlayed, metadataLine, pingedLine, rejectPlayed, said, startPlayed, turnOf}
-use Rattle.plays.specs.declared.decisions.Turn.{Turn}
+use Rattle.plays.specs.declared.turns.Turn.{Turn}
 
 -- 0A: "what u8, place u8, value u32"; "Kind 0A writes `damage` alone."
 unfoldable pub damagePlayed : Session → List ℕ → List ℕ → Turn × List ℕ

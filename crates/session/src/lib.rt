@@ -1,19 +1,15 @@
-// The second room: what a session makes of a wish. Tables, names and numbers in, a decision with the next session out;
-// no bytes of a message, and none of a record.
+// The session by value: refusal 15, the changes that steps and decisions make to it, and the shapes of a decision. No
+// bytes of a message, and none of a record.
 mod changes;
-mod commands;
-mod deciding;
 mod decision;
-mod decisions;
 mod names;
 mod session;
-mod streams;
 
-pub use commands::Room;
-pub use commands::connect;
-pub use commands::play;
-pub use commands::publish;
-pub use deciding::decide;
+pub use changes::connected_to;
+pub use changes::with_changed;
+pub use changes::with_encoding;
+pub use changes::without_request;
+pub use changes::without_stream;
 pub use decision::CommandFault;
 pub use decision::Decision;
 pub use decision::Event;
@@ -22,9 +18,6 @@ pub use decision::quiet;
 pub use decision::raised;
 pub use decision::refused;
 pub use decision::replied;
-pub use decisions::accept;
-pub use decisions::finish;
-pub use decisions::reject;
 pub use names::action_name;
 pub use names::event_name;
 pub use session::Session;
@@ -32,9 +25,3 @@ pub use session::SessionState;
 pub use session::fresh_session;
 pub use session::is_connected;
 pub use session::session_sound;
-pub use streams::Frame;
-pub use streams::change_metadata;
-pub use streams::close_stream;
-pub use streams::create_stream;
-pub use streams::delete_stream;
-pub use streams::frame_of;

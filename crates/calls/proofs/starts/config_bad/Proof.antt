@@ -1,5 +1,5 @@
 use native.Mathlib.Omega.{arith}
-use Rattle.calls.proofs.SendsLaws.{big-chunk, by-version, no-chunk}
+use Rattle.calls.proofs.StartsLaws.{big-chunk, by-version, no-chunk}
 use Rattle.calls.proofs.starts.config_bad.Statement.{statement}
 use Rattle.calls.proofs.starts.config_bad.Tie as tie
 

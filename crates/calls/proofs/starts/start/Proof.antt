@@ -1,5 +1,5 @@
 use mathlib.Core.Path.{refl}
-use Rattle.calls.proofs.SendsLaws.{start-bad, start-good}
+use Rattle.calls.proofs.StartsLaws.{start-bad, start-good}
 use borrow.Author.Needs.{needs}
 use Rattle.calls.proofs.starts.start.Statement.{statement}
 use Rattle.calls.proofs.starts.start.Tie as tie

@@ -4,7 +4,7 @@ use mathlib.Core.Path.{ap, sym, _∙_}
 use lib.Dec.{eqb}
 use Rattle.numbers.specs.Choose.{pick}
 use Rattle.text.specs.Words.{text}
-use Rattle.calls.specs.Calls.{sendsMedia}
+use Rattle.sending.specs.Sends.{sendsMedia}
 use Rattle.plays.specs.Plays.{mediaLine, part, sendLine, stream}
 use borrow.Author.Needs.{needs}
 use Rattle.plays.proofs.sends.play_media.Statement.{statement}

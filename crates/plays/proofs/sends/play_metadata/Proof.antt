@@ -1,7 +1,7 @@
 use Rattle.spelling.proofs.TextLaws.{put-as}
 use mathlib.Core.Path.{ap, _∙_}
 use Rattle.text.specs.Words.{text}
-use Rattle.calls.specs.Calls.{sendsMetadata}
+use Rattle.sending.specs.Sends.{sendsMetadata}
 use Rattle.plays.specs.Plays.{metadataLine, sendLine, stream}
 use borrow.Author.Needs.{needs}
 use Rattle.plays.proofs.sends.play_metadata.Statement.{statement}

@@ -1,7 +1,7 @@
 use Rattle.spelling.proofs.TextLaws.{put-as}
 use mathlib.Core.Path.{ap, _∙_}
 use Prim.Native.Nat.{ℕ}
-use Rattle.calls.specs.Calls.{sendsPing}
+use Rattle.sending.specs.Sends.{sendsPing}
 use Rattle.plays.specs.Plays.{pinged, pingedLine}
 use borrow.Author.Needs.{needs}
 use Rattle.plays.proofs.sends.play_ping.Statement.{statement}

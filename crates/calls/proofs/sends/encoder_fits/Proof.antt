@@ -1,8 +1,0 @@
-use borrow.Author.Needs.{needs}
-use Rattle.calls.proofs.sends.encoder_fits.Statement.{statement}
-use Rattle.calls.proofs.sends.encoder_fits.Tie as tie
-
-pub encoder-fits-spec : {M : Type 1} → statement M
-encoder-fits-spec = tie.close (tie.spec
-    (λ c. rw (c .if1 .taken))
-    (λ c. search needs))

@@ -1,0 +1,50 @@
+// The application's decisions.
+use decisions::accept;
+use decisions::finish;
+use replies::Answer;
+use replies::finish_call;
+use replies::finish_reject;
+use replies::refuse;
+use session::Session;
+use session::session_sound;
+use text::RequestId;
+use text::StreamId;
+use wishes::Outcome;
+ghost use mathlib.Core.Path.{_≡_};
+ghost use Rattle.calls.specs.Calls.{accepting, finishes, rejecting};
+
+pub fn accept_request(session: Session, id: RequestId, clock: u64, out: &mut [u8]) -> Answer
+    ensures { λ r. ⌜ (r, now (out .exit)) ≡ accepting session id clock (now (out .entry)) ⌝ }
+{
+    if !session_sound(session) {
+        return refuse(Outcome::BadSession, session);
+    }
+    let decision = accept(session, id);
+    finish_call(session, decision, clock, out)
+}
+
+pub fn reject_request(
+    session: Session,
+    id: RequestId,
+    code: &[u8],
+    description: &[u8],
+    clock: u64,
+    out: &mut [u8],
+) -> Answer
+    ensures { λ r. ⌜ (r, now (out .exit)) ≡ rejecting session id (now (code .entry)) (now (description .entry)) clock (now (out .entry)) ⌝ }
+{
+    if !session_sound(session) {
+        return refuse(Outcome::BadSession, session);
+    }
+    finish_reject(session, id, code, description, clock, out)
+}
+
+pub fn finish_playing(session: Session, id: StreamId, clock: u64, out: &mut [u8]) -> Answer
+    ensures { λ r. ⌜ (r, now (out .exit)) ≡ finishes session id clock (now (out .entry)) ⌝ }
+{
+    if !session_sound(session) {
+        return refuse(Outcome::BadSession, session);
+    }
+    let decision = finish(session, id);
+    finish_call(session, decision, clock, out)
+}

@@ -1,0 +1,10 @@
+// The third room: the records of a decision, all of them or none, and the answer of the call.
+mod answer;
+mod replies;
+
+pub use answer::Answer;
+pub use answer::answer_of;
+pub use answer::close;
+pub use answer::refuse;
+pub use replies::finish_call;
+pub use replies::finish_reject;

@@ -1,0 +1,2 @@
+pub mod SendsLaws
+pub mod RefusalTheorems

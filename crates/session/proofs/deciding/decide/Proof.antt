@@ -1,9 +1,0 @@
-use Rattle.session.proofs.DecidingLaws.{decided}
-use borrow.Author.Needs.{needs}
-use Rattle.session.proofs.deciding.decide.Statement.{statement}
-use Rattle.session.proofs.deciding.decide.Tie as tie
-
-pub decide-spec : {M : Type 1} → statement M
-decide-spec = tie.close (tie.spec
-    (λ c κs. search needs)
-    (λ c. decided _ _ _ _ (c .decide-want .ensures)))

@@ -1,8 +1,0 @@
-use borrow.Author.Needs.{needs}
-use Rattle.session.proofs.decisions.completed_stream.Statement.{statement}
-use Rattle.session.proofs.decisions.completed_stream.Tie as tie
-
-pub completed-stream-spec : {M : Type 1} → statement M
-completed-stream-spec = tie.close (tie.spec
-    (λ c κs. search needs)
-    (λ c. rw (c .empty-name .ensures)))
