@@ -45,11 +45,16 @@ impl Source {
 
 fn main() {
     println!("cargo:rerun-if-changed=build.rs");
-    println!("cargo:rerun-if-changed=src/peek.rs");
+    shown(&PathBuf::from(env::var("CARGO_MANIFEST_DIR").unwrap()));
+}
+
+/// `home` is the oracle's folder. The benchmark builds the same Rust by this function.
+pub fn shown(home: &Path) {
+    let peek = home.join("src/peek.rs");
+    println!("cargo:rerun-if-changed={}", peek.display());
     println!("cargo:rerun-if-env-changed=CHUNGVATOR_RUST_SRC");
     println!("cargo:rustc-check-cfg=cfg(rust_source)");
 
-    let home = PathBuf::from(env::var("CARGO_MANIFEST_DIR").unwrap());
     let root = match env::var_os("CHUNGVATOR_RUST_SRC") {
         Some(folder) => PathBuf::from(folder),
         None => home.join("../../shared/docs/src"),
@@ -105,5 +110,5 @@ fn main() {
     Source::read(&root, "sessions/server/publish_mode.rs").write(&out);
 
     // A child of the session's module may read its private fields; this file is ours.
-    fs::copy(home.join("src/peek.rs"), out.join("sessions/server/peek.rs")).unwrap();
+    fs::copy(peek, out.join("sessions/server/peek.rs")).unwrap();
 }

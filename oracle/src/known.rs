@@ -2,7 +2,7 @@
 //! oracle, which measures the lent buffer by document 01's length, and by the comparison.
 
 /// Cuts out bytes into whole records. Nothing where they do not end with a record.
-fn records(mut out: &[u8]) -> Option<Vec<&[u8]>> {
+pub fn records(mut out: &[u8]) -> Option<Vec<&[u8]>> {
     let mut records = Vec::new();
     while !out.is_empty() {
         let length = u32::from_be_bytes([0, *out.get(1)?, *out.get(2)?, *out.get(3)?]) as usize;

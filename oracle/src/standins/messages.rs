@@ -122,7 +122,7 @@ fn command(body: &[u8]) -> Result<RtmpMessage, MessageDeserializationError> {
 impl RtmpMessage {
     pub fn into_message_payload(self, timestamp: RtmpTimestamp, stream: u32) -> Result<MessagePayload, MessageSerializationError> {
         let (type_id, data) = match self {
-            RtmpMessage::Acknowledgement { sequence_number } => (3, sequence_number.to_be_bytes().to_vec()),
+            RtmpMessage::Acknowledgement { sequence_number } => (3, sequence_number.to_be_bytes().to_vec().into()),
             RtmpMessage::UserControl { event_type, stream_id, timestamp, .. } => {
                 let (event, number) = match event_type {
                     UserControlEventType::StreamBegin => (0u16, stream_id),
@@ -132,21 +132,21 @@ impl RtmpMessage {
                 };
                 let mut data = event.to_be_bytes().to_vec();
                 data.extend(number.ok_or(MessageSerializationError)?.to_be_bytes());
-                (4, data)
+                (4, data.into())
             }
-            RtmpMessage::WindowAcknowledgement { size } => (5, size.to_be_bytes().to_vec()),
+            RtmpMessage::WindowAcknowledgement { size } => (5, size.to_be_bytes().to_vec().into()),
             RtmpMessage::SetPeerBandwidth { size, limit_type } => {
                 let mut data = size.to_be_bytes().to_vec();
                 data.push(limit_type as u8);
-                (6, data)
+                (6, data.into())
             }
             RtmpMessage::AudioData { data } => (8, data),
             RtmpMessage::VideoData { data } => (9, data),
-            RtmpMessage::Amf0Data { values } => (18, rml_amf0::write_all(&values)),
+            RtmpMessage::Amf0Data { values } => (18, rml_amf0::write_all(&values).into()),
             RtmpMessage::Amf0Command { command_name, transaction_id, command_object, additional_arguments } => {
                 let mut values = vec![Amf0Value::Utf8String(command_name), Amf0Value::Number(transaction_id), command_object];
                 values.extend(additional_arguments);
-                (20, rml_amf0::write_all(&values))
+                (20, rml_amf0::write_all(&values).into())
             }
             // The server session sends none of these.
             RtmpMessage::Abort { .. } | RtmpMessage::SetChunkSize { .. } | RtmpMessage::Unknown => return Err(MessageSerializationError),

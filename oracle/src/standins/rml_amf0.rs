@@ -1,5 +1,6 @@
 //! AMF0 as document 01 says: reading gives refusal 2 or 3, writing has document 01's order.
 
+use super::order::in_order;
 use crate::text;
 use std::collections::HashMap;
 
@@ -137,14 +138,6 @@ impl<'a> Reader<'a> {
     }
 }
 
-/// The order in which document 01 has properties written. The Rust's map has none.
-const ORDER: [&str; 17] = [
-    "fmsVer", "capabilities",
-    "level", "code", "description", "objectEncoding",
-    "width", "height", "videocodecid", "videodatarate", "framerate",
-    "audiocodecid", "audiodatarate", "audiosamplerate", "audiochannels", "stereo", "encoder",
-];
-
 pub fn write_all(values: &[Amf0Value]) -> Vec<u8> {
     let mut out = Vec::new();
     for value in values {
@@ -173,13 +166,9 @@ fn write(out: &mut Vec<u8>, value: &Amf0Value) {
         }
         Amf0Value::Object(properties) => {
             out.push(0x03);
-            let place = |name: &str| ORDER.iter().position(|x| *x == name).unwrap_or(ORDER.len());
-            let mut names: Vec<&String> = properties.keys().collect();
-            // A name that is not in the list would come last, by its letters.
-            names.sort_by_key(|name| (place(name), *name));
-            for name in names {
+            for (name, value) in in_order(properties) {
                 write_text(out, name);
-                write(out, &properties[name]);
+                write(out, value);
             }
             out.extend([0x00, 0x00, 0x09]);
         }
