@@ -1,8 +1,8 @@
 use native.Mathlib.Omega.{arith}
 use lib.ListN.{length-take}
 use borrow.Author.Needs.{needs}
-use Rattle.plate.proofs.steps.step.Statement.{statement}
-use Rattle.plate.proofs.steps.step.Tie as tie
+use Rattle.plate.proofs.calling.step.Statement.{statement}
+use Rattle.plate.proofs.calling.step.Tie as tie
 
 pub step-spec : {M : Type 1} → statement M
 step-spec =

@@ -1,0 +1,12 @@
+use mathlib.Core.Path.{refl, _∙_}
+use Rattle.parts.specs.Parts.{mediaShown}
+use borrow.Author.Needs.{needs}
+use Rattle.parts.proofs.shown.show_media.Statement.{statement}
+use Rattle.parts.proofs.shown.show_media.Tie as tie
+
+pub show-media-spec : {M : Type 1} → statement M
+unfolding mediaShown
+show-media-spec =
+    tie.close
+    (tie.spec
+    (λ c. refl))
