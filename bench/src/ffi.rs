@@ -4,7 +4,8 @@ type Facts = [u64; 10];
 type Streams = [[u64; 4]; 16];
 type Requests = [[u64; 6]; 16];
 type Names = [[u8; 128]; 34];
-type Numbers = [u64; 38];
+type Numbers = [u64; 16];
+type Described = [[u64; 11]; 2];
 type Words = [[u8; 128]; 3];
 
 /// A session by value.
@@ -21,6 +22,7 @@ pub struct Session {
 #[repr(C)]
 pub struct Answer {
     pub numbers: Numbers,
+    pub described: Described,
     pub names: Words,
 }
 
@@ -35,19 +37,19 @@ pub struct Media {
 extern "C" {
     fn chungvator_start(facts: &mut Facts, streams: &mut Streams, requests: &mut Requests, names: &mut Names,
         chunk_size: u32, window_ack_size: u32, peer_bandwidth: u32, on_bw_done: u32, version: *const u8, version_len: usize,
-        clock: u64, out: *mut u8, out_len: usize, numbers: &mut Numbers, words: &mut Words) -> u32;
+        clock: u64, out: *mut u8, out_len: usize, numbers: &mut Numbers, described: &mut Described, words: &mut Words) -> u32;
     fn chungvator_handle_message(facts: &mut Facts, streams: &mut Streams, requests: &mut Requests, names: &mut Names,
         kind: u8, stream: u32, timestamp: u32, clock: u64, body: *const u8, body_len: usize,
-        out: *mut u8, out_len: usize, numbers: &mut Numbers, words: &mut Words) -> u32;
+        out: *mut u8, out_len: usize, numbers: &mut Numbers, described: &mut Described, words: &mut Words) -> u32;
     fn chungvator_handle_media(facts: &Facts, streams: &Streams, requests: &Requests, names: &Names,
         kind: u8, stream: u32, timestamp: u32, media: &mut [u64; 4], words: &mut [[u8; 128]; 2]) -> u32;
     fn chungvator_accept_request(facts: &mut Facts, streams: &mut Streams, requests: &mut Requests, names: &mut Names,
-        request: u32, clock: u64, out: *mut u8, out_len: usize, numbers: &mut Numbers, words: &mut Words) -> u32;
+        request: u32, clock: u64, out: *mut u8, out_len: usize, numbers: &mut Numbers, described: &mut Described, words: &mut Words) -> u32;
     fn chungvator_reject_request(facts: &mut Facts, streams: &mut Streams, requests: &mut Requests, names: &mut Names,
         request: u32, code: *const u8, code_len: usize, description: *const u8, description_len: usize,
-        clock: u64, out: *mut u8, out_len: usize, numbers: &mut Numbers, words: &mut Words) -> u32;
+        clock: u64, out: *mut u8, out_len: usize, numbers: &mut Numbers, described: &mut Described, words: &mut Words) -> u32;
     fn chungvator_finish_playing(facts: &mut Facts, streams: &mut Streams, requests: &mut Requests, names: &mut Names,
-        stream: u32, clock: u64, out: *mut u8, out_len: usize, numbers: &mut Numbers, words: &mut Words) -> u32;
+        stream: u32, clock: u64, out: *mut u8, out_len: usize, numbers: &mut Numbers, described: &mut Described, words: &mut Words) -> u32;
     fn chungvator_send_audio_data(facts: &Facts, streams: &Streams, requests: &Requests, names: &Names,
         stream: u32, timestamp: u32, droppable: u32, body: *const u8, body_len: usize,
         out: *mut u8, out_len: usize, written: &mut u64) -> u32;
@@ -55,7 +57,7 @@ extern "C" {
         stream: u32, timestamp: u32, droppable: u32, body: *const u8, body_len: usize,
         out: *mut u8, out_len: usize, written: &mut u64) -> u32;
     fn chungvator_send_metadata(facts: &Facts, streams: &Streams, requests: &Requests, names: &Names,
-        stream: u32, metadata: &[u64; 22], encoder: &[u8; 128],
+        stream: u32, described: &Described, encoder: &[u8; 128],
         clock: u64, out: *mut u8, out_len: usize, written: &mut u64) -> u32;
     fn chungvator_send_ping_request(facts: &Facts, streams: &Streams, requests: &Requests, names: &Names,
         clock: u64, out: *mut u8, out_len: usize, written: &mut u64, timestamp: &mut u32) -> u32;
@@ -71,7 +73,7 @@ impl Session {
         let number = unsafe {
             chungvator_start(
                 facts, streams, requests, names, 4096, 2_500_000, 2_500_000, 0, version.as_ptr(), version.len(),
-                clock, out.as_mut_ptr(), out.len(), &mut answer.numbers, &mut answer.names,
+                clock, out.as_mut_ptr(), out.len(), &mut answer.numbers, &mut answer.described, &mut answer.names,
             )
         };
         (session, number)
@@ -83,7 +85,7 @@ impl Session {
         unsafe {
             chungvator_handle_message(
                 facts, streams, requests, names, kind, stream, timestamp, clock, body.as_ptr(), body.len(),
-                out.as_mut_ptr(), out.len(), &mut answer.numbers, &mut answer.names,
+                out.as_mut_ptr(), out.len(), &mut answer.numbers, &mut answer.described, &mut answer.names,
             )
         }
     }
@@ -102,7 +104,7 @@ impl Session {
         unsafe {
             chungvator_accept_request(
                 facts, streams, requests, names, request, clock,
-                out.as_mut_ptr(), out.len(), &mut answer.numbers, &mut answer.names,
+                out.as_mut_ptr(), out.len(), &mut answer.numbers, &mut answer.described, &mut answer.names,
             )
         }
     }

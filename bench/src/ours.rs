@@ -24,7 +24,7 @@ impl Ours<'_> {
         Ours {
             messages,
             out: vec![0; ROOM],
-            answer: Answer { numbers: [0; 38], names: [[0; 128]; 3] },
+            answer: Answer { numbers: [0; 16], described: [[0; 11]; 2], names: [[0; 128]; 3] },
             media: Media { numbers: [0; 4], names: [[0; 128]; 2] },
             written: 0,
         }

@@ -30,7 +30,7 @@ use Rattle.image.specs.Cases.{sessionState}
 use Rattle.image.specs.Image.{cell, readableAt, sessionAt, soundAt, streamsAt}
 use Rattle.parts.specs.Parts.{eventNumbers, mediaShown}
 use Rattle.host.specs.Frames.{FrameShown, connectedAt, frameShown, hostedMedia, mediaOf, mediaTold, nothingShown, shownAs, shownFound}
-use Rattle.host.proofs.HostLaws.{door-open, door-shut, not-both, sound-is}
+use Rattle.host.proofs.DoorLaws.{door-open, door-shut, not-both, sound-is}
 
 -- ---- connected
 pub unconnected : (n : ℕ) (b : Bool) → n ≡ 0 → false ≡ connectedIn (sessionState n) b

@@ -1,2 +1,2 @@
-pub mod HostLaws
+pub mod DoorLaws
 pub mod FramesLaws

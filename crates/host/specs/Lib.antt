@@ -1,2 +1,2 @@
-pub mod Host
 pub mod Frames
+pub mod Sends

@@ -52,7 +52,18 @@ pub fn event_numbers(event: Event) -> [u64; 10]
             let s = start_numbers(start);
             let d = duration_numbers(duration);
             let flag = flag_number(reset);
-            [3, request.0 as u64, 0, s[0], s[1], d[0], d[1], flag, stream.0 as u64, 0]
+            [
+                3,
+                request.0 as u64,
+                0,
+                s[0],
+                s[1],
+                d[0],
+                d[1],
+                flag,
+                stream.0 as u64,
+                0,
+            ]
         }
         Event::PublishStreamFinished => plain_event(4, 0, 0, 0),
         Event::PlayStreamFinished => plain_event(5, 0, 0, 0),

@@ -23,13 +23,19 @@ write-session-spec =
     (λ c κs. search needs)
     (λ c κs. search needs)
     (λ c.
-      let a = c .before .before .before .before .before .before .before .before .before .before .before .before .before .before .before .args in
-      let h : length (a .session .streams) ≡ 16 = c .before .before .before .before .before .before .write-streams .ensures .1 in
-      let g : length (a .session .requests) ≡ 16 = c .before .before .before .before .write-requests .ensures .1 in
-      let s : length (a .streams .now) ≡ 16 = omega arith in
-      let r : length (a .requests .now) ≡ 16 = omega arith in
-      let n : length (a .names .now) ≡ 34 = sym (simp length-set) ∙ c .before .before .before .write-keys-arg .given .0 .1 in
-      λ i. (c .before .before .before .before .before .before .before .before .facts-of .ensures i,
-        ((c .before .before .before .before .before .before .write-streams .ensures .0 ∙ placed-all streamRow (a .session .streams) (a .streams .now) s h) i,
-        ((c .before .before .before .before .write-requests .ensures .0 ∙ placed-all requestRow (a .session .requests) (a .requests .now) r g) i,
-        (c .write-titles .ensures ∙ ap (placed 18 (map titleBytes (a .session .requests))) (c .before .before .write-keys .ensures) ∙ names-placed (a .names .now) (map keyBytes (a .session .streams)) (map titleBytes (a .session .requests)) _ _ n (length-map (a .session .streams) keyBytes ∙ h) (length-map (a .session .requests) titleBytes ∙ g)) i)))))
+    let a = c .before .before .before .before .before .before .before .before .before .before .before .before .before .before .before .args in
+    let h : length (a .session .streams) ≡ 16 = c .before .before .before .before .before .before .write-streams .ensures .1 in
+    let g : length (a .session .requests) ≡ 16 = c .before .before .before .before .write-requests .ensures .1 in
+    let s : length (a .streams .now) ≡ 16 = omega arith in
+    let r : length (a .requests .now) ≡ 16 = omega arith in
+    let n : length (a .names .now) ≡ 34 = sym (simp length-set) ∙ c .before .before .before .write-keys-arg .given .0 .1 in
+    λ i. (
+      c .before .before .before .before .before .before .before .before .facts-of .ensures i,
+      (
+        (c .before .before .before .before .before .before .write-streams .ensures .0 ∙ placed-all streamRow (a .session .streams) (a .streams .now) s h) i,
+        (
+          (c .before .before .before .before .write-requests .ensures .0 ∙ placed-all requestRow (a .session .requests) (a .requests .now) r g) i,
+          (c .write-titles .ensures ∙ ap (placed 18 (map titleBytes (a .session .requests))) (c .before .before .write-keys .ensures) ∙ names-placed (a .names .now) (map keyBytes (a .session .streams)) (map titleBytes (a .session .requests)) _ _ n (length-map (a .session .streams) keyBytes ∙ h) (length-map (a .session .requests) titleBytes ∙ g)) i,
+        ),
+      ),
+    )))
