@@ -25,16 +25,16 @@ const PAIRS: usize = 64;
 
 pub fn all() -> Vec<Case> {
     let mut cases = Vec::new();
-    let by: [(&str, fn(usize) -> Call); 2] = [("frame in, handle_media", Call::Media), ("frame in, handle_message", Call::Message)];
-    for (group, call) in by {
-        for (kind, word) in [(8, "audio"), (9, "video")] {
-            for streams in [1, 16] {
-                for size in SIZES {
-                    let name = format!("{word}, {streams} {}, {} bytes", if streams == 1 { "stream" } else { "streams" }, thousands(size as u64));
-                    cases.push(Case { group, name, script: frames(kind, streams, size, call) });
-                }
+    for (kind, word) in [(8, "audio"), (9, "video")] {
+        for streams in [1, 16] {
+            for size in SIZES {
+                cases.push(Case { group: "frame in, handle_media", name: frame_name(word, streams, size), script: frames(kind, streams, size, Call::Media) });
             }
         }
+    }
+    // The same by the call for any message: what a session made of the arrays costs.
+    for streams in [1, 16] {
+        cases.push(Case { group: "frame in, handle_message", name: frame_name("audio", streams, 1_000), script: frames(8, streams, 1_000, Call::Message) });
     }
     let group = "commands and decisions";
     cases.push(Case { group, name: "connect, 40 properties".to_string(), script: connect() });
@@ -45,6 +45,10 @@ pub fn all() -> Vec<Case> {
         cases.push(Case { group: "frame out, send_audio_data", name, script: sends(size) });
     }
     cases
+}
+
+fn frame_name(word: &str, streams: u32, size: usize) -> String {
+    format!("{word}, {streams} {}, {} bytes", if streams == 1 { "stream" } else { "streams" }, thousands(size as u64))
 }
 
 // ---- sessions to start from ----

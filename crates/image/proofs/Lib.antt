@@ -1,3 +1,4 @@
 pub mod TestsLaws
 pub mod RowsLaws
 pub mod QuickLaws
+pub mod RoundTheorems
