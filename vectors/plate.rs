@@ -6,11 +6,10 @@
 //! to be counted, and a refused step works on a copy that is thrown away.
 //!
 //!     rustc -O vectors/plate.rs -o target/make-plate
-//!     target/make-plate in > the calls, as the tested program reads them
-//!     target/make-plate out > what it has to write
+//!     target/make-plate in > the calls, as a trace
+//!     target/make-plate out > the text that the program trace has to write for them
 //!
-//! A call is an entry: its length in two bytes, a kind, the room in two bytes, and the call's arguments. A line is the call, document 01's number (after 11 the action and the stream), the event with its fields, the number
-//! of a ping request and the bytes that were written. Names and bytes are hexadecimal, `-` where empty.
+//! docs/TRACE.md has the format and the text. `oracle/stored` puts both in front of the stored answers.
 
 use std::cell::RefCell;
 use std::collections::BTreeMap;
@@ -569,20 +568,20 @@ thread_local! {
     static TAPE: RefCell<(Vec<u8>, String)> = RefCell::default();
 }
 
-fn entry(kind: u8, room: usize, fields: &[&[u8]]) {
-    let room = u16::try_from(room).expect("little room").to_be_bytes();
-    let body = [&[kind][..], &room, &fields.concat()].concat();
-    let length = u16::try_from(body.len()).expect("a short entry").to_be_bytes();
-    TAPE.with(|t| t.borrow_mut().0.extend([&length[..], &body].concat()));
+fn entry(kind: u8, fields: &[&[u8]]) {
+    TAPE.with(|t| t.borrow_mut().0.extend([&[kind][..], &fields.concat()].concat()));
+}
+
+fn wide(n: usize) -> [u8; 4] {
+    u32::try_from(n).expect("a short entry").to_be_bytes()
+}
+
+fn short(n: usize) -> [u8; 2] {
+    u16::try_from(n).expect("a short text").to_be_bytes()
 }
 
 fn write(words: String) {
     TAPE.with(|t| t.borrow_mut().1 += &(words + "\n"));
-}
-
-fn heading(words: &str) {
-    entry(0, 0, &[format!("# {words}\n").as_bytes()]);
-    write(format!("# {words}"));
 }
 
 /// A session that writes an entry and a line for each call. A message comes at clock 12, an accept at 20, a reject at 5,
@@ -615,7 +614,7 @@ fn line(name: &str, step: &Step, ping: Option<u32>) {
 fn begin(chunk: u32, done: bool, version: &str, room: usize) -> Run {
     let (window, bandwidth) = (2_500_000u32, 2_500_000u32);
     let sizes = [chunk, window, bandwidth].map(u32::to_be_bytes).concat();
-    entry(1, room, &[&sizes, &[u8::from(done)], &9u64.to_be_bytes(), version.as_bytes()]);
+    entry(1, &[&sizes, &[u8::from(done)], &9u64.to_be_bytes(), &wide(room), &short(version.len()), version.as_bytes()]);
     let step = || {
         if chunk == 0 || chunk > 2_147_483_647 || version.len() > 128 {
             return refused(14);
@@ -650,37 +649,27 @@ impl Run {
 
     fn message(&mut self, kind: u8, stream: u32, body: &[u8], room: usize) {
         let head = [&[kind][..], &stream.to_be_bytes(), &77u32.to_be_bytes(), &12u64.to_be_bytes()].concat();
-        entry(2, room, &[&head, body]);
+        entry(2, &[&head, &wide(room), &wide(body.len()), body]);
         self.call("message", room, |s| s.message(kind, stream, 77, 12, body));
     }
 
     fn accept(&mut self, number: u32, room: usize) {
-        entry(3, room, &[&number.to_be_bytes(), &20u64.to_be_bytes()]);
+        entry(3, &[&number.to_be_bytes(), &20u64.to_be_bytes(), &wide(room)]);
         self.call("accept", room, |s| s.accept(number, 20));
     }
 
     fn reject(&mut self, number: u32, code: &str, description: &str, room: usize) {
-        let length = u16::try_from(code.len()).expect("a short code").to_be_bytes();
-        let head = [&number.to_be_bytes()[..], &5u64.to_be_bytes(), &length].concat();
-        entry(4, room, &[&head, code.as_bytes(), description.as_bytes()]);
+        let head = [&number.to_be_bytes()[..], &5u64.to_be_bytes(), &wide(room)].concat();
+        entry(4, &[&head, &short(code.len()), code.as_bytes(), &short(description.len()), description.as_bytes()]);
         self.call("reject", room, |s| s.reject(number, code.as_bytes(), description.as_bytes(), 5));
     }
 
     fn finish(&mut self, stream: u32) {
-        entry(5, ROOM, &[&stream.to_be_bytes(), &LATE.to_be_bytes()]);
+        entry(5, &[&stream.to_be_bytes(), &LATE.to_be_bytes(), &wide(ROOM)]);
         self.call("finish", ROOM, |s| s.finish(stream, LATE));
     }
 
-    /// By the call for audio and video alone.
-    fn frame(&mut self, kind: u8, stream: u32) {
-        let numbers = [stream, 78, 3].map(u32::to_be_bytes).concat();
-        entry(9, 0, &[&[kind], &numbers]);
-        self.call("frame", 0, |s| s.message(kind, stream, 78, 12, &[1, 2, 3]));
-    }
-
     fn audio(&mut self, stream: u32) {
-        self.frame(8, stream);
-        self.frame(9, stream);
         self.message(9, stream, &[1, 2], 0);
         self.message(8, stream, &[1, 2, 3], 0);
     }
@@ -729,10 +718,9 @@ impl Run {
 
     /// With a width and an encoder, or with nothing. An encoder of more than 128 bytes is one that says so.
     fn send_metadata(&mut self, set: bool, width: u32, encoder: &str) {
-        let length = u16::try_from(encoder.len()).expect("a short encoder").to_be_bytes();
-        let head = [&1u32.to_be_bytes()[..], &12u64.to_be_bytes(), &[u8::from(set)], &width.to_be_bytes(), &length];
-        let held = &encoder.as_bytes()[..encoder.len().min(128)];
-        entry(6, ROOM, &[&head.concat(), held]);
+        let flags = if set { 0x401u16 } else { 0 };
+        let head = [&1u32.to_be_bytes()[..], &12u64.to_be_bytes(), &wide(ROOM), &flags.to_be_bytes(), &width.to_be_bytes()];
+        entry(6, &[&head.concat(), &[0; 33], &short(encoder.len()), encoder.as_bytes()]);
         let pairs = if set { vec![("width", number_value(width)), ("encoder", text(encoder))] } else { vec![] };
         let out = record(18, self.0.time(12), 1, 0, &row(&[text("onMetaData"), object(pairs)]));
         self.call("metadata", ROOM, |s| match s.send(out) {
@@ -743,13 +731,13 @@ impl Run {
 
     fn send_media(&mut self, kind: u8, stream: u32, time: u32, droppable: bool, body: &[u8], room: usize) {
         let head = [&[kind][..], &stream.to_be_bytes(), &time.to_be_bytes(), &[u8::from(droppable)]].concat();
-        entry(7, room, &[&head, body]);
+        entry(7, &[&head, &wide(room), &wide(body.len()), body]);
         let flags = if droppable { 2 } else { 0 };
         self.call("media", room, |s| s.send(record(kind, time, stream, flags, body)));
     }
 
     fn send_ping(&mut self, room: usize) {
-        entry(8, room, &[&LATE.to_be_bytes()]);
+        entry(8, &[&LATE.to_be_bytes(), &wide(room)]);
         let time = self.0.time(LATE);
         let step = fitted(self.0.send(control(6, time, time, 0, 0)), room);
         line("ping", &step, Some(time));
@@ -757,8 +745,10 @@ impl Run {
 
     /// One number of the session is overwritten.
     fn change(&mut self, what: u8, value: u32) {
-        entry(10, 0, &[&[what], &value.to_be_bytes()]);
-        write("change".to_string());
+        // the second stream gets the first one's number
+        let (place, number) = if what == STREAM_TWICE { (1, 1) } else { (0, value) };
+        entry(10, &[&[what, place], &number.to_be_bytes()]);
+        write("damage".to_string());
         match what {
             STREAM_NEXT => self.0.last_stream = value - 1,
             REQUEST_NEXT => self.0.next_request = value,
@@ -774,10 +764,10 @@ impl Run {
     }
 }
 
-const STREAM_COUNT: u8 = 0;
-const REQUEST_COUNT: u8 = 1;
-const STREAM_NEXT: u8 = 2;
-const REQUEST_NEXT: u8 = 3;
+const STREAM_COUNT: u8 = 2;
+const REQUEST_COUNT: u8 = 3;
+const STREAM_NEXT: u8 = 8;
+const REQUEST_NEXT: u8 = 9;
 const STREAM_TWICE: u8 = 4;
 
 const VERSION: &str = "FMS/3,0,1,1233";
@@ -799,7 +789,6 @@ fn nested(depth: usize, inmost: Value) -> Value {
 // ---------------------------------------------------------------------------------------------------------
 
 fn starts() {
-    heading("start");
     begin(4096, false, VERSION, 71);
     begin(4096, true, VERSION, ROOM);
     begin(4096, false, VERSION, 70);
@@ -813,7 +802,6 @@ fn starts() {
 }
 
 fn publishing() {
-    heading("publish");
     let mut run = connected();
     run.create();
     run.pin7(1);
@@ -829,14 +817,12 @@ fn publishing() {
 }
 
 fn late() {
-    heading("publish, delete, accept");
     let mut run = connected();
     run.create();
     run.pin7(1);
     run.delete(1.0);
     run.accept(1, 0);
     run.accept(1, ROOM);
-    heading("publish, close, accept");
     run.create();
     run.pin7(2);
     run.close(2.0);
@@ -846,7 +832,6 @@ fn late() {
 }
 
 fn full_requests() {
-    heading("16 requests");
     let mut run = connected();
     run.publish(1, &[text(&"k".repeat(128)), text("live")]);
     run.publish(1, &[text(&"k".repeat(129)), text("live")]);
@@ -861,7 +846,6 @@ fn full_requests() {
 }
 
 fn full_streams() {
-    heading("16 streams");
     let mut run = connected();
     for _ in 0..17 {
         run.create();
@@ -876,7 +860,6 @@ fn full_streams() {
 }
 
 fn apps() {
-    heading("app");
     let mut run = begin(4096, false, "", ROOM);
     run.pin7(1);
     run.play(1, &[text("pin7")]);
@@ -893,7 +876,6 @@ fn apps() {
 }
 
 fn arguments() {
-    heading("arguments");
     let mut run = connected();
     run.publish(7, &[text("pin7")]);
     run.publish(7, &[number(3.0), text("live")]);
@@ -906,7 +888,6 @@ fn arguments() {
 }
 
 fn plays() {
-    heading("play");
     let mut run = connected();
     run.play(7, &[text("pin7")]);
     for start in [-2.0, -1.0, 0.0, -0.0, -0.5] {
@@ -920,7 +901,6 @@ fn plays() {
 }
 
 fn playing() {
-    heading("play, finish");
     let mut run = connected();
     run.create();
     run.finish(1);
@@ -947,7 +927,6 @@ fn playing() {
 }
 
 fn rejects() {
-    heading("reject");
     let mut run = connected();
     run.pin7(3);
     run.reject(7, &"c".repeat(257), "", ROOM);
@@ -961,7 +940,6 @@ fn rejects() {
 }
 
 fn controls() {
-    heading("user control");
     let mut run = begin(4096, false, "", ROOM);
     run.message(4, 5, &[0, 6, 1, 2, 3, 4], 19);
     run.message(4, 0, &[0, 6, 255, 254, 253, 252], 18);
@@ -977,7 +955,6 @@ fn controls() {
 }
 
 fn bodies() {
-    heading("bodies");
     let mut run = begin(4096, false, "", ROOM);
     // One long string, as long as a body may be.
     let longest = [&[0x0C][..], &4091u32.to_be_bytes(), &[b'l'; 4091]].concat();
@@ -998,7 +975,6 @@ fn bodies() {
 }
 
 fn no_apps() {
-    heading("no app");
     let mut run = begin(4096, false, "", ROOM);
     run.connect(object(vec![("ap", text("live"))]));
     run.connect(Null);
@@ -1008,7 +984,6 @@ fn no_apps() {
 }
 
 fn metadata_messages() {
-    heading("metadata");
     let mut run = connected();
     run.create();
     run.create();
@@ -1023,7 +998,6 @@ fn metadata_messages() {
 }
 
 fn sends() {
-    heading("sends");
     let mut run = begin(4096, false, "", ROOM);
     run.send_metadata(true, 320, "x");
     run.send_metadata(false, 320, "x");
@@ -1038,7 +1012,6 @@ fn sends() {
 }
 
 fn used_up() {
-    heading("numbers used up");
     let mut run = connected();
     run.change(STREAM_NEXT, 4_294_967_294);
     run.change(REQUEST_NEXT, 4_294_967_294);
@@ -1055,7 +1028,6 @@ fn used_up() {
 }
 
 fn full_and_used_up() {
-    heading("full and used up");
     let mut run = connected();
     for _ in 0..16 {
         run.create();
@@ -1069,7 +1041,6 @@ fn full_and_used_up() {
 }
 
 fn damaged() {
-    heading("damage");
     let mut run = connected();
     run.create();
     run.create();
