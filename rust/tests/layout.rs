@@ -112,6 +112,69 @@ fn the_header_and_the_crate_name_the_same_places() {
     assert_eq!(printed.lines().collect::<Vec<_>>(), ours);
 }
 
+/// The numbers of crates/image/specs/Cases.antt and crates/parts/specs/Parts.antt, and document 01's.
+const CASES: &str = "\
+DONE 0
+BODY_TOO_LONG 1
+NOT_AMF0 2
+TOO_DEEP 3
+NO_COMMAND 4
+NO_APP 5
+NAME_TOO_LONG 6
+REQUESTS_FULL 7
+NUMBERS_USED_UP 8
+STREAMS_FULL 9
+NO_SUCH_REQUEST 10
+WRONG_STREAM 11
+NO_ROOM 12
+TEXT_TOO_LONG 13
+BAD_CONFIG 14
+BAD_SESSION 15
+NO_ACTION 0
+PUBLISH 1
+PLAY 2
+COMPLETE 3
+STARTED 0
+CONNECTED 1
+CREATED 0
+PUBLISHING 1
+PLAYING 2
+COMPLETED 3
+LIVE 0
+APPEND 1
+RECORD 2
+CONNECT_REQUEST 0
+PUBLISH_REQUEST 1
+PLAY_REQUEST 2
+NO_EVENT 0
+CONNECTION_REQUESTED 1
+PUBLISH_STREAM_REQUESTED 2
+PLAY_STREAM_REQUESTED 3
+PUBLISH_STREAM_FINISHED 4
+PLAY_STREAM_FINISHED 5
+STREAM_METADATA_CHANGED 6
+AUDIO_DATA_RECEIVED 7
+VIDEO_DATA_RECEIVED 8
+PING_RESPONSE_RECEIVED 9
+LIVE_OR_RECORDED 0
+LIVE_ONLY 1
+START_TIME_IN_SECONDS 2
+RECORD_TYPE 0
+RECORD_LENGTH 1
+RECORD_TIMESTAMP 4
+RECORD_STREAM 8
+RECORD_FLAGS 12
+RECORD_HEADER 13
+UNCOMPRESSED 1
+DROPPABLE 2
+";
+
+#[test]
+fn the_header_has_the_numbers_of_all_cases() {
+    let Some(printed) = c::run("cases.c") else { return };
+    assert_eq!(printed, CASES);
+}
+
 const ROOM: usize = 1024;
 
 fn call(session: &mut Session, kind: u8, on: u32, body: &[u8]) -> Answer {
