@@ -12,6 +12,8 @@
  *     What is only read may overlap with what is only read.
  *   - A slice is two words: a pointer, and a count of bytes. The pointer is not NULL, also where the count is 0.
  *   - Nobody else writes what is lent while the call runs. Calls on different sessions may run at the same time.
+ *   - There is stack enough. As built now, a message takes up to 72 KB, an accept or a finish 47 KB, a reject 23 KB, a
+ *     start 20 KB, a frame or a send 15 KB.
  * All else is the library's business: no number and no byte that is handed in is wrong, it is answered or refused.
  *
  * The chungvator_session_.. functions at the end are those that a host calls. The others are what the library exports.
@@ -33,24 +35,41 @@ extern "C" {
  * Every refusal leaves the session and the buffer as they were, and raises nothing. There is one exception: 11 from an
  * accept removes the request. A start that is refused hands back a fresh session (see chungvator_start). */
 enum chungvator_refusal {
-    CHUNGVATOR_DONE = 0,             /* done; perhaps an event, perhaps records */
-    CHUNGVATOR_BODY_TOO_LONG = 1,    /* body over 4,096 bytes in types 4, 18, 20; or over 16,777,215 in an audio or video send */
-    CHUNGVATOR_NOT_AMF0 = 2,         /* body is not whole AMF0 values end to end; or user control under 2 bytes, or a ping under 6 */
-    CHUNGVATOR_TOO_DEEP = 3,         /* a container (03, 08, 0A) lies inside eight others */
-    CHUNGVATOR_NO_COMMAND = 4,       /* a command does not begin with string, number, any value */
-    CHUNGVATOR_NO_APP = 5,           /* connect: third value no object, or `app` absent or no string */
-    CHUNGVATOR_NAME_TOO_LONG = 6,    /* app name, key or metadata encoder that the step would file, raise or send is over 128 bytes */
-    CHUNGVATOR_REQUESTS_FULL = 7,    /* a request is to be filed and 16 wait already */
-    CHUNGVATOR_NUMBERS_USED_UP = 8,  /* the number to be given to a new request or stream would be 4,294,967,295 */
-    CHUNGVATOR_STREAMS_FULL = 9,     /* a stream is to be made and 16 exist already */
-    CHUNGVATOR_NO_SUCH_REQUEST = 10, /* no waiting request has this number */
-    CHUNGVATOR_WRONG_STREAM = 11,    /* accepted request's stream is missing, or finished stream is not Playing */
-    CHUNGVATOR_NO_ROOM = 12,         /* lent out buffer is shorter than all records of the answer */
-    CHUNGVATOR_TEXT_TOO_LONG = 13,   /* reject code or description over 256 bytes */
-    CHUNGVATOR_BAD_CONFIG = 14,      /* chunk size 0 or over 2,147,483,647; or `fms_version` over 128 */
-    CHUNGVATOR_BAD_SESSION = 15      /* the session handed in has a name length over 128, a table count over its 16 places, a
-                                        number twice in one table, or a number not below the next one; or a number in it
-                                        names nothing, or does not fit 32 bits where it has to */
+    /* done; perhaps an event, perhaps records */
+    CHUNGVATOR_DONE = 0,
+    /* body over 4,096 bytes in types 4, 18, 20; or over 16,777,215 in an audio or video send */
+    CHUNGVATOR_BODY_TOO_LONG = 1,
+    /* body is not whole AMF0 values end to end; or user control under 2 bytes, or a ping under 6 */
+    CHUNGVATOR_NOT_AMF0 = 2,
+    /* a container (03, 08, 0A) lies inside eight others */
+    CHUNGVATOR_TOO_DEEP = 3,
+    /* a command does not begin with string, number, any value */
+    CHUNGVATOR_NO_COMMAND = 4,
+    /* connect: third value no object, or `app` absent or no string */
+    CHUNGVATOR_NO_APP = 5,
+    /* app name (after its slash is taken), key or metadata encoder that the step would file, raise or send is over 128
+       bytes */
+    CHUNGVATOR_NAME_TOO_LONG = 6,
+    /* a request is to be filed and 16 wait already */
+    CHUNGVATOR_REQUESTS_FULL = 7,
+    /* the number to be given to a new request or stream would be 4,294,967,295 */
+    CHUNGVATOR_NUMBERS_USED_UP = 8,
+    /* a stream is to be made and 16 exist already */
+    CHUNGVATOR_STREAMS_FULL = 9,
+    /* no waiting request has this number */
+    CHUNGVATOR_NO_SUCH_REQUEST = 10,
+    /* accepted request's stream is missing, or finished stream is not Playing; the answer names the action and the
+       stream */
+    CHUNGVATOR_WRONG_STREAM = 11,
+    /* lent out buffer is shorter than all records of the answer */
+    CHUNGVATOR_NO_ROOM = 12,
+    /* reject code or description over 256 bytes */
+    CHUNGVATOR_TEXT_TOO_LONG = 13,
+    /* chunk size 0 or over 2,147,483,647; or `fms_version` over 128 */
+    CHUNGVATOR_BAD_CONFIG = 14,
+    /* the session handed in has a name length over 128, a table count over its 16 places, a number twice in one table,
+       or a number not below the next one; or a number in it names nothing, or is 2^32 or more where it has to be below */
+    CHUNGVATOR_BAD_SESSION = 15
 };
 
 /* What refusal 11 names beside the stream. */
@@ -88,7 +107,9 @@ enum chungvator_type {
     CHUNGVATOR_TYPE_COMMAND = 20
 };
 
-/* ---- A session: four arrays, 5,712 bytes. ---- */
+/* ---- A session: four arrays, 5,712 bytes. ----
+ * Rows past a count are nobody's, and nothing reads them. A call that is done, and 11, may write them again: a number
+ * there that names nothing then becomes one that does. Rows that a start or a later call left stay as they are. */
 enum { CHUNGVATOR_PLACES = 16, CHUNGVATOR_NAME_BYTES = 128 };
 
 /* facts[..] */
@@ -279,7 +300,7 @@ uint32_t chungvator_handle_message(CHUNGVATOR_SESSION_ARRAYS, uint8_t type, uint
                                    CHUNGVATOR_ANSWER_ARRAYS);
 
 /* Answers an audio or a video message as chungvator_handle_message does, without copying the session; the body is not
- * asked for, and a message of another type is answered 0 with no event, whatever it is. */
+ * asked for, and a message of another type raises nothing here. */
 uint32_t chungvator_handle_media(CHUNGVATOR_READ_ARRAYS, uint8_t type, uint32_t stream, uint32_t timestamp,
                                  uint64_t media[CHUNGVATOR_MEDIA_NUMBERS],
                                  uint8_t words[CHUNGVATOR_MEDIA_WORDS][CHUNGVATOR_NAME_BYTES]);

@@ -71,8 +71,8 @@ fn frame(session: &ServerSession, message: &MessagePayload) -> Result<(), Server
     let mut names = MediaNames::new();
     match session.handle_media(message, &mut names)? {
         Some(event) => {
-            let key = String::from_utf8_lossy(event.stream_key);
-            println!("    {:?}, {} bytes at {} ms, to be filed under {key}", event.kind, event.data.len(), event.timestamp);
+            let (key, bytes, at) = (event.stream_key.escape_ascii(), event.data.len(), event.timestamp);
+            println!("    {:?}, {bytes} bytes at {at} ms, to be filed under {key}", event.kind);
         }
         None => println!("    nothing: the stream is not publishing"),
     }

@@ -61,13 +61,13 @@ pub enum MediaKind {
     Video,
 }
 
-/// The event of an audio or a video message, with names that stand in a lent [`MediaNames`].
+/// The event of an audio or a video message. Its names stand in a lent [`MediaNames`], its data is the message's.
 #[derive(Clone, Copy, Debug, PartialEq, Eq)]
-pub struct MediaEvent<'a> {
+pub struct MediaEvent<'n, 'm> {
     pub kind: MediaKind,
-    pub app_name: &'a [u8],
-    pub stream_key: &'a [u8],
-    pub data: &'a [u8],
+    pub app_name: &'n [u8],
+    pub stream_key: &'n [u8],
+    pub data: &'m [u8],
     pub timestamp: u32,
 }
 
@@ -87,8 +87,8 @@ impl Default for MediaNames {
     }
 }
 
-impl<'a> MediaEvent<'a> {
-    pub(crate) fn of(names: &'a ffi::Media, data: &'a [u8]) -> Option<MediaEvent<'a>> {
+impl<'n, 'm> MediaEvent<'n, 'm> {
+    pub(crate) fn of(names: &'n ffi::Media, data: &'m [u8]) -> Option<MediaEvent<'n, 'm>> {
         let ffi::Media { numbers, words } = names;
         let kind = match numbers[media::EVENT] {
             0 => return None,
@@ -104,11 +104,14 @@ impl<'a> MediaEvent<'a> {
             timestamp: numbers[media::TIMESTAMP] as u32,
         })
     }
+}
 
-    /// With names of its own. The data stays that of the message, so `data` is handed in again with its own lifetime.
-    pub(crate) fn owned<'m>(&self, data: &'m [u8]) -> ServerSessionEvent<'m> {
-        let (app_name, stream_key, timestamp) = (self.app_name.to_vec(), self.stream_key.to_vec(), self.timestamp);
-        match self.kind {
+/// The same event with names of its own.
+impl<'m> From<MediaEvent<'_, 'm>> for ServerSessionEvent<'m> {
+    fn from(event: MediaEvent<'_, 'm>) -> ServerSessionEvent<'m> {
+        let (app_name, stream_key) = (event.app_name.to_vec(), event.stream_key.to_vec());
+        let (data, timestamp) = (event.data, event.timestamp);
+        match event.kind {
             MediaKind::Audio => ServerSessionEvent::AudioDataReceived { app_name, stream_key, data, timestamp },
             MediaKind::Video => ServerSessionEvent::VideoDataReceived { app_name, stream_key, data, timestamp },
         }
@@ -134,7 +137,7 @@ fn start_of(kind: u64, time: u64) -> PlayStartValue {
 }
 
 impl<'m> ServerSessionEvent<'m> {
-    /// The event that an answer holds, if any. `data` is the body of the message that was answered.
+    /// The event that an answer holds, if any, by the header's numbers. `data` is the body of the message.
     pub fn of(answer: &ffi::Answer, data: &'m [u8]) -> Option<ServerSessionEvent<'m>> {
         let n = &answer.numbers;
         let app_name = answer.words[word::APP][..n[number::APP_LEN] as usize].to_vec();

@@ -81,7 +81,7 @@ impl ServerSession {
         let MessagePayload { timestamp, type_id, message_stream_id: StreamId(stream), data } = *message;
         if matches!(type_id, message_type::AUDIO | message_type::VIDEO) {
             let mut names = MediaNames::new();
-            let event = self.handle_media(message, &mut names)?.map(|event| event.owned(data));
+            let event = self.handle_media(message, &mut names)?.map(ServerSessionEvent::from);
             return Ok(ServerSessionResult { event, records: Records::new(&[]) });
         }
         let mut answer = ffi::Answer::new();
@@ -92,11 +92,11 @@ impl ServerSession {
 
     /// An audio or a video message, without an allocation. There is an event where the session is connected and the
     /// stream is publishing. A message of another type raises nothing here.
-    pub fn handle_media<'a>(
+    pub fn handle_media<'n, 'm>(
         &self,
-        message: &MessagePayload<'a>,
-        names: &'a mut MediaNames,
-    ) -> Outcome<Option<MediaEvent<'a>>> {
+        message: &MessagePayload<'m>,
+        names: &'n mut MediaNames,
+    ) -> Outcome<Option<MediaEvent<'n, 'm>>> {
         let MessagePayload { timestamp, type_id, message_stream_id: StreamId(stream), data } = *message;
         let number = self.arrays.handle_media(type_id, stream, timestamp, &mut names.0);
         ServerSessionError::check(number, 0, 0)?;
@@ -185,7 +185,8 @@ impl ServerSession {
         &self.arrays
     }
 
-    /// The same, to be written. Whatever is written is safe: arrays that hold no session are refused with 15.
+    /// The same, to be written. Whatever is written is safe: arrays that hold no session are refused with 15. Rows past
+    /// a count are nobody's; a call may write them again.
     pub fn arrays_mut(&mut self) -> &mut ffi::Session {
         &mut self.arrays
     }

@@ -232,7 +232,8 @@ fn numbers_land_in_the_places_that_are_named() {
     let a = call(&mut s, 20, 1, &client::publish(b"pin7", "record"));
     assert_eq!([a.numbers[number::EVENT], a.numbers[number::REQUEST], a.numbers[number::MODE]], [2, 1, 2]);
     assert_eq!(text(&a.words[word::KEY], a.numbers[number::KEY_LEN]), b"pin7");
-    let rest = [client::null(), client::string(b"pin8"), client::number(7.0), client::number(8.0), client::boolean(true)];
+    let (key, time, duration) = (client::string(b"pin8"), client::number(7.0), client::number(8.0));
+    let rest = [client::null(), key, time, duration, client::boolean(true)];
     let a = call(&mut s, 20, 2, &client::command("play", 0.0, &rest));
     let n = a.numbers;
     assert_eq!([n[number::EVENT], n[number::REQUEST], n[number::STREAM]], [3, 2, 2]);
@@ -291,17 +292,19 @@ fn every_property_has_its_column() {
     accept(&mut s, 1);
     for (property, column, spelled, value) in columns {
         let object = client::object(&[(property, spelled)]);
-        let a = call(&mut s, 18, 1, &[client::string(b"@setDataFrame"), client::string(b"onMetaData"), object.clone()].concat());
+        let described = [client::string(b"onMetaData"), object].concat();
+        let a = call(&mut s, 18, 1, &[client::string(b"@setDataFrame"), described.clone()].concat());
         assert_eq!(a.numbers[number::EVENT], 6, "{property}");
         let mut rows = [[0; 11]; 2];
         (rows[SET][column], rows[VALUES][column]) = (1, value);
         assert_eq!(a.described, rows, "{property}");
         let encoder = a.words[word::ENCODER];
-        assert_eq!(text(&encoder, a.described[VALUES][ENCODER]), if column == ENCODER { &b"bench cam"[..] } else { b"" });
+        let expected: &[u8] = if column == ENCODER { b"bench cam" } else { b"" };
+        assert_eq!(text(&encoder, a.described[VALUES][ENCODER]), expected);
 
         let mut out = [0; ROOM];
         let (n, written) = s.send_metadata(1, &Metadata { described: rows, encoder }, 0, &mut out);
         assert_eq!(n, 0);
-        assert_eq!(out[13..written as usize], [client::string(b"onMetaData"), object].concat(), "{property}");
+        assert_eq!(out[13..written as usize], described, "{property}");
     }
 }

@@ -155,7 +155,10 @@ fn a_seventeenth_stream_is_9() {
 }
 
 /// A decision or a finish that is refused. Whether the session changed is handed back.
-fn decided(session: &mut ServerSession, call: impl Fn(&mut ServerSession, &mut [u8]) -> Outcome<()>) -> (ServerSessionError, bool) {
+fn decided(
+    session: &mut ServerSession,
+    call: impl Fn(&mut ServerSession, &mut [u8]) -> Outcome<()>,
+) -> (ServerSessionError, bool) {
     let before = session.clone();
     let mut out = [0xA5; ServerSession::ROOM];
     let refusal = call(session, &mut out).expect_err("refused");
