@@ -68,7 +68,7 @@ enum chungvator_refusal {
     /* chunk size 0 or over 2,147,483,647; or `fms_version` over 128 */
     CHUNGVATOR_BAD_CONFIG = 14,
     /* the session handed in has a name length over 128, a table count over its 16 places, a number twice in one table,
-       or a number not below the next one; or a number in it names nothing, or is 2^32 or more where it has to be below */
+       or a number not below the next one; or a number in it names nothing, or is 2^32 or more where it must not */
     CHUNGVATOR_BAD_SESSION = 15
 };
 
