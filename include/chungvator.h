@@ -108,8 +108,9 @@ enum chungvator_type {
 };
 
 /* ---- A session: four arrays, 5,712 bytes. ----
- * Rows past a count are nobody's, and nothing reads them. A call that is done, and 11, may write them again: a number
- * there that names nothing then becomes one that does. Rows that a start or a later call left stay as they are. */
+ * Rows past a count are nobody's, and nothing reads them. A call that is done, and 11 from an accept, may write them
+ * again: a number there that names nothing then becomes one that does. Rows that a start or a later call left stay as
+ * they are. */
 enum { CHUNGVATOR_PLACES = 16, CHUNGVATOR_NAME_BYTES = 128 };
 
 /* facts[..] */

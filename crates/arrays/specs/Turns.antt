@@ -18,12 +18,12 @@ use Rattle.parts.specs.Parts.{Shown, shownParts}
 unfoldable pub isSet : ℕ → Bool
 isSet n = pick (eqb n 0) false true
 
--- the session is written back where something was done, and where 11 took a request away
-unfoldable pub keeps : ℕ → Bool
-keeps number = pick (eqb number 0) true (eqb number 11)
+-- the session is written back where something was done, and with one more number that a call may name: "only 11 from an accept removes the request"
+unfoldable pub keeps : ℕ → ℕ → Bool
+keeps also number = pick (eqb number 0) true (eqb number also)
 
-unfoldable pub kept : Arrays → Answer → Arrays
-kept before a = pick (keeps (numberOf (a .outcome))) (arraysOf (a .session)) before
+unfoldable pub kept : ℕ → Arrays → Answer → Arrays
+kept also before a = pick (keeps also (numberOf (a .outcome))) (arraysOf (a .session)) before
 
 -- an answer's number and parts
 unfoldable pub told : Answer → ℕ × Shown
@@ -33,14 +33,14 @@ told a = (numberOf (a .outcome), shownParts (a .outcome) (a .event) (a .app) (a 
 unfoldable pub unread : ℕ × Shown
 unread = (15, shownParts BadSession NoEvent emptyName emptyName noMetadata 0)
 
-abbrev pub returned : Arrays → Answer → Arrays × (ℕ × Shown)
-returned before a = (kept before a, told a)
+abbrev pub returned : ℕ → Arrays → Answer → Arrays × (ℕ × Shown)
+returned also before a = (kept also before a, told a)
 
 -- a call: 15 where a number of the arrays names nothing, else what the session's call says
-unfoldable pub hosted : Arrays → List ℕ → (Session → Answer × List ℕ) → (Arrays × (ℕ × Shown)) × List ℕ
-hosted before out call =
+unfoldable pub hosted : ℕ → Arrays → List ℕ → (Session → Answer × List ℕ) → (Arrays × (ℕ × Shown)) × List ℕ
+hosted also before out call =
     pick (readableAt (before .0) (before .1 .0) (before .1 .1 .0))
-    (returned before (call (sessionAt (before .0) (before .1 .0) (before .1 .1 .0) (before .1 .1 .1)) .0), call (sessionAt (before .0) (before .1 .0) (before .1 .1 .0) (before .1 .1 .1)) .1)
+    (returned also before (call (sessionAt (before .0) (before .1 .0) (before .1 .1 .0) (before .1 .1 .1)) .0), call (sessionAt (before .0) (before .1 .0) (before .1 .1 .0) (before .1 .1 .1)) .1)
     ((before, unread), out)
 
 -- a start reads nothing of the arrays

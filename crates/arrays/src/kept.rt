@@ -20,14 +20,14 @@ pub fn is_set(n: u32) -> bool
     true
 }
 
-// The session is written back where something was done, and where 11 took a request away.
-fn keeps_session(number: u32) -> bool
-    ensures { λ r. ⌜ r ≡ keeps number ⌝ }
+// The session is written back where something was done, and with one more number that the call names.
+fn keeps_session(also: u32, number: u32) -> bool
+    ensures { λ r. ⌜ r ≡ keeps also number ⌝ }
 {
     if number == 0 {
         return true;
     }
-    number == 11
+    number == also
 }
 
 fn keep_session(
@@ -35,13 +35,14 @@ fn keep_session(
     streams: &mut [[u64; 4]; 16],
     requests: &mut [[u64; 6]; 16],
     names: &mut [[u8; 128]; 34],
+    also: u32,
     answer: Answer,
 )
-    ensures { λ r. ⌜ (now (facts .exit), (now (streams .exit), (now (requests .exit), now (names .exit)))) ≡ kept (now (facts .entry), (now (streams .entry), (now (requests .entry), now (names .entry)))) answer ⌝ }
+    ensures { λ r. ⌜ (now (facts .exit), (now (streams .exit), (now (requests .exit), now (names .exit)))) ≡ kept also (now (facts .entry), (now (streams .entry), (now (requests .entry), now (names .entry)))) answer ⌝ }
 {
     let outcome = answer.outcome;
     let session = answer.session;
-    if keeps_session(number_of(outcome)) {
+    if keeps_session(also, number_of(outcome)) {
         write_session(facts, streams, requests, names, session);
     }
 }
@@ -107,10 +108,11 @@ pub fn return_answer(
     numbers: &mut [u64; 16],
     described: &mut [[u64; 11]; 2],
     words: &mut [[u8; 128]; 3],
+    also: u32,
     answer: Answer,
 ) -> u32
-    ensures { λ r. ⌜ ((now (facts .exit), (now (streams .exit), (now (requests .exit), now (names .exit)))), (r, (now (numbers .exit), (now (described .exit), now (words .exit))))) ≡ returned (now (facts .entry), (now (streams .entry), (now (requests .entry), now (names .entry)))) answer ⌝ }
+    ensures { λ r. ⌜ ((now (facts .exit), (now (streams .exit), (now (requests .exit), now (names .exit)))), (r, (now (numbers .exit), (now (described .exit), now (words .exit))))) ≡ returned also (now (facts .entry), (now (streams .entry), (now (requests .entry), now (names .entry)))) answer ⌝ }
 {
-    keep_session(facts, streams, requests, names, answer);
+    keep_session(facts, streams, requests, names, also, answer);
     tell(numbers, described, words, answer)
 }

@@ -35,7 +35,7 @@ pub fn message_in(
     described: &mut [[u64; 11]; 2],
     words: &mut [[u8; 128]; 3],
 ) -> u32
-    ensures { λ r. ⌜ (((now (facts .exit), (now (streams .exit), (now (requests .exit), now (names .exit)))), (r, (now (numbers .exit), (now (described .exit), now (words .exit))))), now (out .exit)) ≡ hosted (now (facts .entry), (now (streams .entry), (now (requests .entry), now (names .entry)))) (now (out .entry)) (λ (s : Session). handleMessage s kind (record { 0 = stream }) timestamp clock (now (body .entry)) (now (out .entry))) ⌝ }
+    ensures { λ r. ⌜ (((now (facts .exit), (now (streams .exit), (now (requests .exit), now (names .exit)))), (r, (now (numbers .exit), (now (described .exit), now (words .exit))))), now (out .exit)) ≡ hosted 0 (now (facts .entry), (now (streams .entry), (now (requests .entry), now (names .entry)))) (now (out .entry)) (λ (s : Session). handleMessage s kind (record { 0 = stream }) timestamp clock (now (body .entry)) (now (out .entry))) ⌝ }
 {
     if !readable(facts, streams, requests) {
         return tell_unread(numbers, described, words);
@@ -50,6 +50,7 @@ pub fn message_in(
         numbers,
         described,
         words,
+        0,
         answer,
     )
 }
@@ -67,7 +68,7 @@ pub fn accept_in(
     described: &mut [[u64; 11]; 2],
     words: &mut [[u8; 128]; 3],
 ) -> u32
-    ensures { λ r. ⌜ (((now (facts .exit), (now (streams .exit), (now (requests .exit), now (names .exit)))), (r, (now (numbers .exit), (now (described .exit), now (words .exit))))), now (out .exit)) ≡ hosted (now (facts .entry), (now (streams .entry), (now (requests .entry), now (names .entry)))) (now (out .entry)) (λ (s : Session). accepting s (record { 0 = request }) clock (now (out .entry))) ⌝ }
+    ensures { λ r. ⌜ (((now (facts .exit), (now (streams .exit), (now (requests .exit), now (names .exit)))), (r, (now (numbers .exit), (now (described .exit), now (words .exit))))), now (out .exit)) ≡ hosted 11 (now (facts .entry), (now (streams .entry), (now (requests .entry), now (names .entry)))) (now (out .entry)) (λ (s : Session). accepting s (record { 0 = request }) clock (now (out .entry))) ⌝ }
 {
     if !readable(facts, streams, requests) {
         return tell_unread(numbers, described, words);
@@ -82,6 +83,7 @@ pub fn accept_in(
         numbers,
         described,
         words,
+        11,
         answer,
     )
 }
@@ -101,7 +103,7 @@ pub fn reject_in(
     described: &mut [[u64; 11]; 2],
     words: &mut [[u8; 128]; 3],
 ) -> u32
-    ensures { λ r. ⌜ (((now (facts .exit), (now (streams .exit), (now (requests .exit), now (names .exit)))), (r, (now (numbers .exit), (now (described .exit), now (words .exit))))), now (out .exit)) ≡ hosted (now (facts .entry), (now (streams .entry), (now (requests .entry), now (names .entry)))) (now (out .entry)) (λ (s : Session). rejecting s (record { 0 = request }) (now (code .entry)) (now (description .entry)) clock (now (out .entry))) ⌝ }
+    ensures { λ r. ⌜ (((now (facts .exit), (now (streams .exit), (now (requests .exit), now (names .exit)))), (r, (now (numbers .exit), (now (described .exit), now (words .exit))))), now (out .exit)) ≡ hosted 0 (now (facts .entry), (now (streams .entry), (now (requests .entry), now (names .entry)))) (now (out .entry)) (λ (s : Session). rejecting s (record { 0 = request }) (now (code .entry)) (now (description .entry)) clock (now (out .entry))) ⌝ }
 {
     if !readable(facts, streams, requests) {
         return tell_unread(numbers, described, words);
@@ -116,6 +118,7 @@ pub fn reject_in(
         numbers,
         described,
         words,
+        0,
         answer,
     )
 }
@@ -133,7 +136,7 @@ pub fn finish_in(
     described: &mut [[u64; 11]; 2],
     words: &mut [[u8; 128]; 3],
 ) -> u32
-    ensures { λ r. ⌜ (((now (facts .exit), (now (streams .exit), (now (requests .exit), now (names .exit)))), (r, (now (numbers .exit), (now (described .exit), now (words .exit))))), now (out .exit)) ≡ hosted (now (facts .entry), (now (streams .entry), (now (requests .entry), now (names .entry)))) (now (out .entry)) (λ (s : Session). finishes s (record { 0 = stream }) clock (now (out .entry))) ⌝ }
+    ensures { λ r. ⌜ (((now (facts .exit), (now (streams .exit), (now (requests .exit), now (names .exit)))), (r, (now (numbers .exit), (now (described .exit), now (words .exit))))), now (out .exit)) ≡ hosted 0 (now (facts .entry), (now (streams .entry), (now (requests .entry), now (names .entry)))) (now (out .entry)) (λ (s : Session). finishes s (record { 0 = stream }) clock (now (out .entry))) ⌝ }
 {
     if !readable(facts, streams, requests) {
         return tell_unread(numbers, described, words);
@@ -148,6 +151,7 @@ pub fn finish_in(
         numbers,
         described,
         words,
+        0,
         answer,
     )
 }

@@ -27,7 +27,7 @@ pub extern "C" fn chungvator_handle_message(
     described: &mut [[u64; 11]; 2],
     words: &mut [[u8; 128]; 3],
 ) -> u32
-    ensures { λ r. ⌜ (((now (facts .exit), (now (streams .exit), (now (requests .exit), now (names .exit)))), (r, (now (numbers .exit), (now (described .exit), now (words .exit))))), now (out .exit)) ≡ hosted (now (facts .entry), (now (streams .entry), (now (requests .entry), now (names .entry)))) (now (out .entry)) (λ (s : Session). handleMessage s kind (record { 0 = stream }) timestamp clock (now (body .entry)) (now (out .entry))) ⌝ }
+    ensures { λ r. ⌜ (((now (facts .exit), (now (streams .exit), (now (requests .exit), now (names .exit)))), (r, (now (numbers .exit), (now (described .exit), now (words .exit))))), now (out .exit)) ≡ hosted 0 (now (facts .entry), (now (streams .entry), (now (requests .entry), now (names .entry)))) (now (out .entry)) (λ (s : Session). handleMessage s kind (record { 0 = stream }) timestamp clock (now (body .entry)) (now (out .entry))) ⌝ }
 {
     message_in(
         facts,
@@ -60,7 +60,7 @@ pub extern "C" fn chungvator_accept_request(
     described: &mut [[u64; 11]; 2],
     words: &mut [[u8; 128]; 3],
 ) -> u32
-    ensures { λ r. ⌜ (((now (facts .exit), (now (streams .exit), (now (requests .exit), now (names .exit)))), (r, (now (numbers .exit), (now (described .exit), now (words .exit))))), now (out .exit)) ≡ hosted (now (facts .entry), (now (streams .entry), (now (requests .entry), now (names .entry)))) (now (out .entry)) (λ (s : Session). accepting s (record { 0 = request }) clock (now (out .entry))) ⌝ }
+    ensures { λ r. ⌜ (((now (facts .exit), (now (streams .exit), (now (requests .exit), now (names .exit)))), (r, (now (numbers .exit), (now (described .exit), now (words .exit))))), now (out .exit)) ≡ hosted 11 (now (facts .entry), (now (streams .entry), (now (requests .entry), now (names .entry)))) (now (out .entry)) (λ (s : Session). accepting s (record { 0 = request }) clock (now (out .entry))) ⌝ }
 {
     accept_in(
         facts,
@@ -92,7 +92,7 @@ pub extern "C" fn chungvator_reject_request(
     described: &mut [[u64; 11]; 2],
     words: &mut [[u8; 128]; 3],
 ) -> u32
-    ensures { λ r. ⌜ (((now (facts .exit), (now (streams .exit), (now (requests .exit), now (names .exit)))), (r, (now (numbers .exit), (now (described .exit), now (words .exit))))), now (out .exit)) ≡ hosted (now (facts .entry), (now (streams .entry), (now (requests .entry), now (names .entry)))) (now (out .entry)) (λ (s : Session). rejecting s (record { 0 = request }) (now (code .entry)) (now (description .entry)) clock (now (out .entry))) ⌝ }
+    ensures { λ r. ⌜ (((now (facts .exit), (now (streams .exit), (now (requests .exit), now (names .exit)))), (r, (now (numbers .exit), (now (described .exit), now (words .exit))))), now (out .exit)) ≡ hosted 0 (now (facts .entry), (now (streams .entry), (now (requests .entry), now (names .entry)))) (now (out .entry)) (λ (s : Session). rejecting s (record { 0 = request }) (now (code .entry)) (now (description .entry)) clock (now (out .entry))) ⌝ }
 {
     reject_in(
         facts,
@@ -124,7 +124,7 @@ pub extern "C" fn chungvator_finish_playing(
     described: &mut [[u64; 11]; 2],
     words: &mut [[u8; 128]; 3],
 ) -> u32
-    ensures { λ r. ⌜ (((now (facts .exit), (now (streams .exit), (now (requests .exit), now (names .exit)))), (r, (now (numbers .exit), (now (described .exit), now (words .exit))))), now (out .exit)) ≡ hosted (now (facts .entry), (now (streams .entry), (now (requests .entry), now (names .entry)))) (now (out .entry)) (λ (s : Session). finishes s (record { 0 = stream }) clock (now (out .entry))) ⌝ }
+    ensures { λ r. ⌜ (((now (facts .exit), (now (streams .exit), (now (requests .exit), now (names .exit)))), (r, (now (numbers .exit), (now (described .exit), now (words .exit))))), now (out .exit)) ≡ hosted 0 (now (facts .entry), (now (streams .entry), (now (requests .entry), now (names .entry)))) (now (out .entry)) (λ (s : Session). finishes s (record { 0 = stream }) clock (now (out .entry))) ⌝ }
 {
     finish_in(
         facts,

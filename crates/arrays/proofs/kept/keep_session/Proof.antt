@@ -10,5 +10,5 @@ keep-session-spec =
     (λ c κs. search needs)
     (λ c κs. search needs)
     (λ c κs. search needs)
-    (λ c. let a = c .before .before .before .before .before .before .before .before .before .args in kept-new (a .facts .now, (a .streams .now, (a .requests .now, a .names .now))) _ (a .answer) _ (c .before .before .before .before .before .before .before .number-of .ensures) _ (c .before .before .before .before .before .before .keeps-session .ensures) (c .before .before .before .before .before .if1 .taken) (c .write-session .ensures))
-    (λ c. let a = c .before .before .before .before .args in kept-old (a .facts .now, (a .streams .now, (a .requests .now, a .names .now))) (a .facts .now, (a .streams .now, (a .requests .now, a .names .now))) (a .answer) _ (c .before .before .number-of .ensures) _ (c .before .keeps-session .ensures) (c .if1 .left)))
+    (λ c. let a = c .before .before .before .before .before .before .before .before .before .args in kept-new (a .also) (a .facts .now, (a .streams .now, (a .requests .now, a .names .now))) _ (a .answer) _ (c .before .before .before .before .before .before .before .number-of .ensures) _ (c .before .before .before .before .before .before .keeps-session .ensures) (c .before .before .before .before .before .if1 .taken) (c .write-session .ensures))
+    (λ c. let a = c .before .before .before .before .args in kept-old (a .also) (a .facts .now, (a .streams .now, (a .requests .now, a .names .now))) (a .facts .now, (a .streams .now, (a .requests .now, a .names .now))) (a .answer) _ (c .before .before .number-of .ensures) _ (c .before .keeps-session .ensures) (c .if1 .left)))
