@@ -1,5 +1,4 @@
 // What a call leaves in the host's arrays.
-use image::write_session;
 use metadata::no_metadata;
 use parts::show_answer;
 use replies::Answer;
@@ -7,6 +6,7 @@ use session::Event;
 use text::empty_name;
 use wishes::Outcome;
 use wishes::number_of;
+use written::write_session;
 ghost use mathlib.Core.Path.{_≡_};
 ghost use Rattle.arrays.specs.Turns.{isSet, keeps, kept, returned, told, unread};
 

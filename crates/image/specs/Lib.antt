@@ -1,4 +1,3 @@
 pub mod Cases
 pub mod Image
-pub mod Places
 pub mod Quick

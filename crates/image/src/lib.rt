@@ -5,12 +5,13 @@
 mod cases;
 mod reading;
 mod sound;
-mod writing;
 
 pub use cases::flag_number;
+pub use cases::kind_number;
 pub use cases::mode_number;
+pub use cases::session_state_number;
+pub use cases::state_number;
 pub use reading::find_row;
 pub use reading::read_session;
 pub use sound::image_sound;
 pub use sound::readable;
-pub use writing::write_session;

@@ -1,17 +1,17 @@
 // From a session to the arrays.
-use crate::cases::flag_number;
-use crate::cases::kind_number;
-use crate::cases::mode_number;
-use crate::cases::session_state_number;
-use crate::cases::state_number;
+use image::flag_number;
+use image::kind_number;
+use image::mode_number;
+use image::session_state_number;
+use image::state_number;
 use session::Session;
 use tables::Request;
 use tables::Stream;
 ghost use mathlib.Core.Path.{_≡_};
 ghost use mathlib.Core.List.{map};
 ghost use lib.ListN.{length};
 ghost use Rattle.image.specs.Image.{arraysOf, factsOf, keyBytes, requestRow, streamRow, titleBytes};
-ghost use Rattle.image.specs.Places.{placed};
+ghost use Rattle.written.specs.Places.{placed};
 
 fn stream_row(stream: Stream) -> [u64; 4]
     ensures { λ r. ⌜ r ≡ streamRow stream ⌝ }

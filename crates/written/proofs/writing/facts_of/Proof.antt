@@ -1,6 +1,6 @@
 use borrow.Author.Needs.{needs}
-use Rattle.image.proofs.writing.facts_of.Statement.{statement}
-use Rattle.image.proofs.writing.facts_of.Tie as tie
+use Rattle.written.proofs.writing.facts_of.Statement.{statement}
+use Rattle.written.proofs.writing.facts_of.Tie as tie
 
 pub facts-of-spec : {M : Type 1} → statement M
 facts-of-spec =

@@ -3,12 +3,12 @@ use mathlib.Core.Path.{ap, _∙_}
 use mathlib.Core.List.{map}
 use mathlib.Core.Path.{_≡_, sym}
 use lib.ListN.{length, length-map, length-set}
 use Rattle.image.specs.Image.{arraysOf, keyBytes, requestRow, streamRow, titleBytes}
-use Rattle.image.specs.Places.{placed}
-use Rattle.image.proofs.RowsLaws.{names-placed, placed-all}
+use Rattle.written.specs.Places.{placed}
+use Rattle.written.proofs.PlacesLaws.{names-placed, placed-all}
 use borrow.Author.Needs.{needs}
-use Rattle.image.proofs.writing.write_session.Statement.{statement}
-use Rattle.image.proofs.writing.write_session.Tie as tie
+use Rattle.written.proofs.writing.write_session.Statement.{statement}
+use Rattle.written.proofs.writing.write_session.Tie as tie
 
 pub write-session-spec : {M : Type 1} → statement M
 unfolding arraysOf

@@ -6,11 +6,11 @@ use Prim.Native.Nat.{_+_, _-_, _≤_}
 use mathlib.Core.List.{_++_, map}
 use lib.ListN.{drop, length, length-set, take}
 use lib.Seq.{drop-set-lt}
 use Rattle.image.specs.Image.{keyBytes}
-use Rattle.image.proofs.RowsLaws.{put-done, put-step}
+use Rattle.written.proofs.PlacesLaws.{put-done, put-step}
 use borrow.Author.Needs.{needs}
-use Rattle.image.proofs.writing.write_keys.Statement.{statement}
-use Rattle.image.proofs.writing.write_keys.Tie as tie
+use Rattle.written.proofs.writing.write_keys.Statement.{statement}
+use Rattle.written.proofs.writing.write_keys.Tie as tie
 
 abbrev Inv-loop : tie.InvT-loop
 Inv-loop names₀ streams i₀ names i = (i ≤ 16) × ((length names ≡ length names₀) × ((take (2 + i) names ≡ take 2 names₀ ++ map keyBytes (take i streams)) × (drop (2 + 16) names ≡ drop (2 + 16) names₀)))
