@@ -9,25 +9,27 @@ use Rattle.text.specs.Names.{emptyName, nameOf}
 use Rattle.text.specs.declared.ids.RequestId.{RequestId}
 use Rattle.text.specs.declared.ids.StreamId.{StreamId}
 use Rattle.record.specs.Records.{startRecords}
-use Rattle.wishes.specs.declared.outcome.Outcome.the-variants.{BadConfig}
-use Rattle.session.specs.Decisions.{quietly}
+use Rattle.answers.specs.Sending.{sent}
+use Rattle.answers.specs.declared.sent.Sent.{Sent}
+use Rattle.wishes.specs.declared.outcome.Outcome.the-variants.{BadConfig, NoRoom}
 use Rattle.session.specs.State.{freshSession}
 use Rattle.session.specs.declared.session.Session.{Session}
-use Rattle.decisions.specs.Answers.{acceptRequest, finishPlaying, rejectRequest}
-use Rattle.replies.specs.Answers.{answered, refusal}
-use Rattle.replies.specs.Finishing.{finishing, short}
+use Rattle.decisions.specs.Answers.{accepted, finishedOn, rejected}
+use Rattle.replies.specs.Answers.{idle, refusal}
+use Rattle.replies.specs.Finishing.{finishing}
+use Rattle.replies.specs.Replies.{short}
 use Rattle.replies.specs.declared.answer.Answer.{Answer}
 use Rattle.messages.specs.Messages.{guarded}
 
 -- ---- decisions
 abbrev pub accepting : Session → RequestId → ℕ → List ℕ → Answer × List ℕ
-accepting s id clock out = guarded s out (finishing s (acceptRequest s id) [] [] clock out)
+accepting s id clock out = guarded s out (finishing s (accepted s id) [] [] clock out)
 
 abbrev pub rejecting : Session → RequestId → List ℕ → List ℕ → ℕ → List ℕ → Answer × List ℕ
-rejecting s id code description clock out = guarded s out (finishing s (rejectRequest s id (short code description)) code description clock out)
+rejecting s id code description clock out = guarded s out (finishing s (rejected s id (short code description)) code description clock out)
 
 abbrev pub finishes : Session → StreamId → ℕ → List ℕ → Answer × List ℕ
-finishes s id clock out = guarded s out (finishing s (finishPlaying s id) [] [] clock out)
+finishes s id clock out = guarded s out (finishing s (finishedOn s id) [] [] clock out)
 
 -- ---- start
 -- 14: "chunk size 0 or over 2,147,483,647; or fms_version over 128"
@@ -38,7 +40,10 @@ badConfig chunk version = eqb chunk 0 || (ltb 2147483647 chunk || ltb 128 (lengt
 abbrev pub blankSession : Session
 blankSession = freshSession 0 emptyName
 
+abbrev pub opened : ℕ → List ℕ → Sent → Answer
+opened clock version r = pick (r .fits) (idle (freshSession clock (nameOf version)) (r .count)) (refusal NoRoom blankSession)
+
 unfoldable pub starting : ℕ → ℕ → ℕ → Bool → List ℕ → ℕ → List ℕ → Answer × List ℕ
 starting chunk window bandwidth finish version clock out =
     pick (badConfig chunk version) (refusal BadConfig blankSession, out)
-    (answered blankSession (quietly (freshSession clock (nameOf version))) (startRecords chunk window bandwidth finish) out)
+    (opened clock version (sent (startRecords chunk window bandwidth finish) out .0), sent (startRecords chunk window bandwidth finish) out .1)

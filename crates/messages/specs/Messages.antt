@@ -12,15 +12,14 @@ use Rattle.wishes.specs.DataFrame.{dataWish}
 use Rattle.wishes.specs.declared.outcome.Outcome.{Outcome}
 use Rattle.wishes.specs.declared.outcome.Outcome.the-variants.{BadSession, Done}
 use Rattle.wishes.specs.declared.wish.Wish.{Wish}
-use Rattle.session.specs.Decisions.{quietly}
 use Rattle.session.specs.State.{sessionSound}
 use Rattle.session.specs.declared.decision.Event.{Event}
 use Rattle.session.specs.declared.decision.Event.the-variants.{NoEvent, AudioDataReceived, VideoDataReceived}
 use Rattle.session.specs.declared.session.Session.{Session}
 use Rattle.streams.specs.Streams.{frameOf}
 use Rattle.streams.specs.declared.streams.Frame.{Frame}
-use Rattle.steps.specs.Deciding.{decide}
-use Rattle.replies.specs.Answers.{answerOf, refusal}
+use Rattle.steps.specs.Deciding.{decided}
+use Rattle.replies.specs.Answers.{idle, refusal}
 use Rattle.replies.specs.Finishing.{finishing}
 use Rattle.replies.specs.declared.answer.Answer.{Answer}
 use Rattle.messages.specs.declared.messages.MediaAnswer.{MediaAnswer}
@@ -32,7 +31,7 @@ unfoldable pub guarded : Session → List ℕ → Answer × List ℕ → Answer 
 guarded s out a = pick (sessionSound s) a (refusal BadSession s, out)
 
 abbrev pub wished : Session → StreamId → ℕ → List ℕ → Wish → Answer × List ℕ
-wished s x clock out w = finishing s (decide s x w) [] [] clock out
+wished s x clock out w = finishing s (decided s x w) [] [] clock out
 
 abbrev pub frameAnswer : Session → Frame → Answer
 frameAnswer s f = record { outcome = Done; event = f .event; app = f .app; key = f .key; metadata = noMetadata; count = 0; session = s }
@@ -45,7 +44,7 @@ byType s type x timestamp clock body out =
     (pick (eqb type 9) (frameAnswer s (frameOf s x (VideoDataReceived timestamp)), out)
     (pick (eqb type 18) (wished s x clock out (dataWish body))
     (pick (eqb type 20) (wished s x clock out (commandWish body))
-    (answerOf (quietly s) 0, out)))))
+    (idle s 0, out)))))
 
 abbrev pub handleMessage : Session → ℕ → StreamId → ℕ → ℕ → List ℕ → List ℕ → Answer × List ℕ
 handleMessage s type x timestamp clock body out = guarded s out (byType s type x timestamp clock body out)

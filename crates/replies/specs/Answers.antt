@@ -7,7 +7,8 @@ use Rattle.metadata.specs.Metadata.{noMetadata}
 use Rattle.answers.specs.Sending.{sent}
 use Rattle.answers.specs.declared.sent.Sent.{Sent}
 use Rattle.wishes.specs.declared.outcome.Outcome.{Outcome}
-use Rattle.wishes.specs.declared.outcome.Outcome.the-variants.{NoRoom}
+use Rattle.wishes.specs.declared.outcome.Outcome.the-variants.{Done, NoRoom}
+use Rattle.session.specs.Changes.{applied}
 use Rattle.session.specs.declared.decision.Decision.{Decision}
 use Rattle.session.specs.declared.decision.Event.the-variants.{NoEvent}
 use Rattle.session.specs.declared.session.Session.{Session}
@@ -17,12 +18,17 @@ use Rattle.replies.specs.declared.answer.Answer.{Answer}
 abbrev pub refusal : Outcome → Session → Answer
 refusal outcome s = record { outcome = outcome; event = NoEvent; app = emptyName; key = emptyName; metadata = noMetadata; count = 0; session = s }
 
-abbrev pub answerOf : Decision → ℕ → Answer
-answerOf d n = record { outcome = d .outcome; event = d .event; app = d .app; key = d .key; metadata = d .metadata; count = n; session = d .session }
+-- done, with no event
+abbrev pub idle : Session → ℕ → Answer
+idle s n = record { outcome = Done; event = NoEvent; app = emptyName; key = emptyName; metadata = noMetadata; count = n; session = s }
+
+-- the session after what was decided
+abbrev pub answerOf : Session → Decision → ℕ → Answer
+answerOf s d n = record { outcome = d .outcome; event = d .event; app = d .app; key = d .key; metadata = d .metadata; count = n; session = applied s (d .change) }
 
 -- 12 stands between the decision and its records: "Removing a request before the out buffer is known to suffice" can't happen
 abbrev pub closed : Session → Decision → Sent → Answer
-closed s d r = pick (r .fits) (answerOf d (r .count)) (refusal NoRoom s)
+closed s d r = pick (r .fits) (answerOf s d (r .count)) (refusal NoRoom s)
 
 -- the answer and the buffer, of a decision and its records
 unfoldable pub answered : Session → Decision → List ℕ → List ℕ → Answer × List ℕ

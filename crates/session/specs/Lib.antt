@@ -1,3 +1,5 @@
 pub mod State
+pub mod Changes
+pub mod Desk
 pub mod Decisions
 pub mod Names

@@ -1,17 +1,21 @@
--- A session: what a start makes, what connected means, refusal 15, and the changes that steps make.
+-- A session: what a start makes, what connected means, refusal 15, and its parts changed one at a time.
 use Prim.Native.Nat.{ℕ, _+_, _-_}
 use mathlib.Core.Bool.{Bool, true, false, _&&_}
 use mathlib.Core.List.{List}
 use mathlib.Core.Option.{Option}
-use lib.Dec.{leb}
+use lib.Dec.{eqb, leb}
 use lib.ListN.{replicate, set, take}
 use Rattle.numbers.specs.Choose.{pick}
 use Rattle.text.specs.Names.{emptyName}
 use Rattle.text.specs.declared.names.Name.{Name}
-use Rattle.tables.specs.Entries.{noRequest, noStream, requestName, requestNumber, streamName, streamNumber}
+use Rattle.text.specs.declared.ids.RequestId.{RequestId}
+use Rattle.text.specs.declared.ids.StreamId.{StreamId}
+use Rattle.tables.specs.Entries.{foundRequest, foundStream, noRequest, noStream, requestName, requestNumber, streamName, streamNumber}
 use Rattle.tables.specs.Tables.{changed, look, removed, tableSound}
 use Rattle.tables.specs.declared.requests.Request.{Request}
+use Rattle.tables.specs.declared.requests.RequestFound.{RequestFound}
 use Rattle.tables.specs.declared.streams.Stream.{Stream}
+use Rattle.tables.specs.declared.streams.StreamFound.{StreamFound}
 use Rattle.session.specs.declared.session.Session.{Session}
 use Rattle.session.specs.declared.session.SessionState.{SessionState}
 use Rattle.session.specs.declared.session.SessionState.the-variants.{Started, Connected}
@@ -61,7 +65,22 @@ streamOf s x = look streamNumber x (take (s .«stream_count») (s .streams))
 abbrev pub requestOf : Session → ℕ → Option Request
 requestOf s n = look requestNumber n (take (s .«request_count») (s .requests))
 
--- ---- the changes that steps make
+-- what a search says
+abbrev pub streamAt : Session → StreamId → StreamFound
+streamAt s id = foundStream (streamOf s (id .0))
+
+abbrev pub requestAt : Session → RequestId → RequestFound
+requestAt s id = foundRequest (requestOf s (id .0))
+
+-- ---- one part changed
+-- the number after one that was given; 4,294,967,295 never is
+abbrev pub following : ℕ → ℕ
+following n = pick (eqb n 4294967295) n (n + 1)
+
+-- one more in a table; a full one has no place for it
+abbrev pub oneMore : ℕ → ℕ
+oneMore n = pick (leb 16 n) n (n + 1)
+
 abbrev pub withStreams : Session → ℕ → ℕ → List Stream → Session
 withStreams s next count streams =
     record {
@@ -98,7 +117,7 @@ withRequests s next count requests =
 
 -- a new stream under the next number; the stream of a number changed; or removed
 unfoldable pub withStream : Session → Stream → Session
-withStream s e = withStreams s (s .«next_stream» + 1) (s .«stream_count» + 1) (set (s .streams) (s .«stream_count») e)
+withStream s e = withStreams s (following (s .«next_stream»)) (oneMore (s .«stream_count»)) (set (s .streams) (s .«stream_count») e)
 
 unfoldable pub withChanged : Session → Stream → Session
 withChanged s e = withStreams s (s .«next_stream») (s .«stream_count») (changed streamNumber e (s .«stream_count») (s .streams))
@@ -108,7 +127,7 @@ withoutStream s x = withStreams s (s .«next_stream») (s .«stream_count» - 1)
 
 -- a request filed under the next number; or taken away
 unfoldable pub withRequest : Session → Request → Session
-withRequest s r = withRequests s (s .«next_request» + 1) (s .«request_count» + 1) (set (s .requests) (s .«request_count») r)
+withRequest s r = withRequests s (following (s .«next_request»)) (oneMore (s .«request_count»)) (set (s .requests) (s .«request_count») r)
 
 unfoldable pub withoutRequest : Session → ℕ → Session
 withoutRequest s n = withRequests s (s .«next_request») (s .«request_count» - 1) (removed requestNumber noRequest n (s .«request_count») (s .requests))

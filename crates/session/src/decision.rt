@@ -1,5 +1,6 @@
 // What a session decides of a wish or a call.
-use crate::session::Session;
+use crate::changes::Change;
+use crate::changes::no_change;
 use metadata::StreamMetadata;
 use metadata::no_metadata;
 use numbers::PlayDuration;
@@ -11,7 +12,7 @@ use text::StreamId;
 use text::empty_name;
 use wishes::Outcome;
 ghost use mathlib.Core.Path.{_≡_};
-ghost use Rattle.session.specs.Decisions.{quietly, raising, refusing, replying};
+ghost use Rattle.session.specs.Decisions.{nothing, quietly, raising, refusing, refusingWith, replying};
 
 // The Rust's events. The app, the key and the metadata stand beside the event.
 pub enum Event {
@@ -85,18 +86,25 @@ pub struct Decision {
     pub metadata: StreamMetadata,
     pub reply: Reply,
     pub name: Name,
-    pub session: Session,
+    pub change: Change,
 }
 
 // Done, with no event and no record.
-pub fn quiet(session: Session) -> Decision
-    ensures { λ r. ⌜ r ≡ quietly session ⌝ }
+pub fn quiet(change: Change) -> Decision
+    ensures { λ r. ⌜ r ≡ quietly change ⌝ }
 {
-    replied(Reply::Nothing, empty_name(), session)
+    replied(Reply::Nothing, empty_name(), change)
 }
 
-pub fn refused(outcome: Outcome, session: Session) -> Decision
-    ensures { λ r. ⌜ r ≡ refusing outcome session ⌝ }
+pub fn nothing_done() -> Decision
+    ensures { λ r. ⌜ r ≡ nothing ⌝ }
+{
+    quiet(no_change())
+}
+
+// A refusal that changes something: 11 from an accept.
+pub fn refused_with(outcome: Outcome, change: Change) -> Decision
+    ensures { λ r. ⌜ r ≡ refusingWith outcome change ⌝ }
 {
     let app = empty_name();
     let key = empty_name();
@@ -110,12 +118,18 @@ pub fn refused(outcome: Outcome, session: Session) -> Decision
         metadata,
         reply: Reply::Nothing,
         name,
-        session,
+        change,
     }
 }
 
-pub fn replied(reply: Reply, name: Name, session: Session) -> Decision
-    ensures { λ r. ⌜ r ≡ replying reply name session ⌝ }
+pub fn refused(outcome: Outcome) -> Decision
+    ensures { λ r. ⌜ r ≡ refusing outcome ⌝ }
+{
+    refused_with(outcome, no_change())
+}
+
+pub fn replied(reply: Reply, name: Name, change: Change) -> Decision
+    ensures { λ r. ⌜ r ≡ replying reply name change ⌝ }
 {
     let app = empty_name();
     let key = empty_name();
@@ -128,7 +142,7 @@ pub fn replied(reply: Reply, name: Name, session: Session) -> Decision
         metadata,
         reply,
         name,
-        session,
+        change,
     }
 }
 
@@ -137,9 +151,9 @@ pub fn raised(
     app: Name,
     key: Name,
     metadata: StreamMetadata,
-    session: Session,
+    change: Change,
 ) -> Decision
-    ensures { λ r. ⌜ r ≡ raising event app key metadata session ⌝ }
+    ensures { λ r. ⌜ r ≡ raising event app key metadata change ⌝ }
 {
     let name = empty_name();
     Decision {
@@ -150,6 +164,6 @@ pub fn raised(
         metadata,
         reply: Reply::Nothing,
         name,
-        session,
+        change,
     }
 }

@@ -14,12 +14,15 @@ use Rattle.tables.specs.declared.streams.Stream.{Stream}
 use Rattle.tables.specs.declared.streams.StreamState.{StreamState}
 use Rattle.tables.specs.declared.streams.StreamState.the-variants.{Created, Publishing, Playing, Completed}
 use Rattle.wishes.specs.declared.outcome.Outcome.the-variants.{NameTooLong, NumbersUsedUp, StreamsFull}
-use Rattle.session.specs.Decisions.{quietly, raising, refusing, replying}
-use Rattle.session.specs.State.{connected, streamOf, withChanged, withStream, withoutStream}
+use Rattle.session.specs.Changes.{making, noChange, removing, setting}
+use Rattle.session.specs.Decisions.{nothing, quietly, raising, refusing, replying}
+use Rattle.session.specs.State.{connected, streamOf}
+use Rattle.session.specs.declared.changes.Change.{Change}
 use Rattle.session.specs.declared.decision.Decision.{Decision}
 use Rattle.session.specs.declared.decision.Event.{Event}
 use Rattle.session.specs.declared.decision.Event.the-variants.{NoEvent, PublishStreamFinished, PlayStreamFinished, StreamMetadataChanged}
 use Rattle.session.specs.declared.decision.Reply.the-variants.{StreamCreated}
+use Rattle.session.specs.declared.desk.Desk.{Desk}
 use Rattle.session.specs.declared.session.Session.{Session}
 use Rattle.streams.specs.declared.streams.Frame.{Frame}
 
@@ -27,48 +30,44 @@ use Rattle.streams.specs.declared.streams.Frame.{Frame}
 abbrev pub created : StreamId → Stream
 created id = record { id = id; state = Created; mode = Live; key = emptyName }
 
-abbrev pub nextStream : Session → StreamId
-nextStream s = record { 0 = s .«next_stream» }
+abbrev pub nextStream : Desk → StreamId
+nextStream d = record { 0 = d .«next_stream» }
 
 -- "createStream: connected or not, makes the next number, from 1, state Created; answers _result, the transaction, null, the number, on stream 0."
 -- 8: "the number to be given to a new request or stream would be 4,294,967,295". 9: "a stream is to be made and 16 exist already"
-unfoldable pub createStream : Session → ℕ → Decision
-createStream s transaction =
-    pick (eqb (s .«next_stream») 4294967295) (refusing NumbersUsedUp s)
-    (pick (leb 16 (s .«stream_count»)) (refusing StreamsFull s)
-    (replying (StreamCreated transaction (nextStream s)) emptyName (withStream s (created (nextStream s)))))
+unfoldable pub createStream : Desk → ℕ → Decision
+createStream d transaction =
+    pick (eqb (d .«next_stream») 4294967295) (refusing NumbersUsedUp)
+    (pick (leb 16 (d .«stream_count»)) (refusing StreamsFull)
+    (replying (StreamCreated transaction (nextStream d)) emptyName (making (created (nextStream d)))))
 
 -- ---- what happens where a connected session has the stream, and nothing where not
-abbrev pub onFound : Option Stream → Decision → (Stream → Decision) → Decision
-onFound none d f = d
-onFound (some e) d f = f e
-
-unfoldable pub onStream : Session → StreamId → (Stream → Decision) → Decision
-onStream s id f = pick (connected s) (onFound (streamOf s (id .0)) (quietly s) f) (quietly s)
+unfoldable pub onStream : Desk → (Stream → Decision) → Decision
+onStream d f = pick (d .connected) (pick (d .seen .found) (f (d .seen .stream)) nothing) nothing
 
 -- "Publishing or Playing raises PublishStreamFinished or PlayStreamFinished."
-abbrev pub ended : StreamState → Name → Name → Session → Decision
-ended Created app key s = quietly s
-ended Publishing app key s = raising PublishStreamFinished app key noMetadata s
-ended Playing app key s = raising PlayStreamFinished app key noMetadata s
-ended Completed app key s = quietly s
+abbrev pub ended : StreamState → Name → Name → Change → Decision
+ended Created app key c = quietly c
+ended Publishing app key c = raising PublishStreamFinished app key noMetadata c
+ended Playing app key c = raising PlayStreamFinished app key noMetadata c
+ended Completed app key c = quietly c
 
 -- "closeStream, deleteStream: nothing unless connected and the first argument is a number whose u32 names a stream." "Close then leaves Created; delete removes."
-abbrev pub closeStream : Session → StreamId → Decision
-closeStream s id = onStream s id (λ (e : Stream). ended (e .state) (s .app) (e .key) (withChanged s (created id)))
+abbrev pub closeStream : Desk → Decision
+closeStream d = onStream d (λ (e : Stream). ended (e .state) (d .app) (e .key) (setting (created (e .id))))
 
-abbrev pub deleteStream : Session → StreamId → Decision
-deleteStream s id = onStream s id (λ (e : Stream). ended (e .state) (s .app) (e .key) (withoutStream s (id .0)))
+abbrev pub deleteStream : Desk → Decision
+deleteStream d = onStream d (λ (e : Stream). ended (e .state) (d .app) (e .key) (removing e))
 
 -- "connected, stream Publishing: StreamMetadataChanged"; 6 only where the event would be raised
-abbrev pub described : StreamState → Session → Name → Bool → StreamMetadata → Decision
-described Created s key fits m = quietly s
-described Publishing s key fits m = pick fits (raising StreamMetadataChanged (s .app) key m s) (refusing NameTooLong s)
-described Playing s key fits m = quietly s
-described Completed s key fits m = quietly s
+abbrev pub described : StreamState → Name → Name → Bool → StreamMetadata → Decision
+described Created app key fits m = nothing
+described Publishing app key fits m = pick fits (raising StreamMetadataChanged app key m noChange) (refusing NameTooLong)
+described Playing app key fits m = nothing
+described Completed app key fits m = nothing
 
-abbrev pub changeMetadata : Session → StreamId → Bool → StreamMetadata → Decision
-changeMetadata s id fits m = onStream s id (λ (e : Stream). described (e .state) s (e .key) fits m)
+abbrev pub changeMetadata : Desk → Bool → StreamMetadata → Decision
+changeMetadata d fits m = onStream d (λ (e : Stream). described (e .state) (d .app) (e .key) fits m)
 
 -- ---- "audio, video: connected and Publishing raises the event with app, key and timestamp; its data is the body. Else nothing."
 abbrev pub noFrame : Frame

@@ -112,6 +112,14 @@ module _ {A : Type 0} (number : A → ℕ) (name : A → Name) where
       pick-eq (λ (o : Option A). o ≡ some e → name e .len ≤ 128) (some x) (look number id xs) (number x) id
       (λ q u. let z : x ≡ e = cc in subst (λ (y : A). name y .len ≤ 128) z (s .short)) (λ n u. found-short next id xs e (s .rest) u) f
 
+  -- and the number that was looked for
+  pub found-number : (id : ℕ) (xs : List A) (e : A) → look number id xs ≡ some e → number e ≡ id
+  unfolding look
+  found-number id [] e f = let z : _≡_ {A = ℕ} 0 1 = cc in absurd (omega arith)
+  found-number id (x ∷ xs) e f =
+      pick-eq (λ (o : Option A). o ≡ some e → number e ≡ id) (some x) (look number id xs) (number x) id
+      (λ q u. let z : x ≡ e = cc in subst (λ (y : A). number y ≡ id) z q) (λ n u. found-number id xs e u) f
+
   -- ---- lengths
   length-change : (y : A) (xs : List A) → length (change number y xs) ≡ length xs
   unfolding change

@@ -10,4 +10,4 @@ pub quiet-spec : {M : Type 1} → statement M
 quiet-spec = tie.close (tie.spec
     (λ c κs. search needs)
     (λ c κs. search needs)
-    (λ c. let s = c .before .before .args .session in c .replied .ensures ∙ ap (λ (x : Name). replying Nothing x s) (c .before .empty-name .ensures)))
+    (λ c. let s = c .before .before .args .change in c .replied .ensures ∙ ap (λ (x : Name). replying Nothing x s) (c .before .empty-name .ensures)))
