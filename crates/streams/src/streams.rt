@@ -1,20 +1,23 @@
 // Steps that go by a stream: createStream, closeStream, deleteStream, metadata, audio and video.
 use metadata::StreamMetadata;
 use metadata::no_metadata;
+use session::Change;
 use session::Decision;
+use session::Desk;
+use session::Effect;
 use session::Event;
 use session::Reply;
 use session::Session;
 use session::is_connected;
+use session::no_change;
+use session::nothing_done;
+use session::of_stream;
 use session::quiet;
 use session::raised;
 use session::refused;
 use session::replied;
-use session::with_changed;
-use session::without_stream;
 use tables::Stream;
 use tables::StreamState;
-use tables::append_stream;
 use tables::find_stream;
 use text::Name;
 use text::PublishMode;
@@ -22,8 +25,6 @@ use text::StreamId;
 use text::empty_name;
 use wishes::Outcome;
 ghost use mathlib.Core.Path.{_≡_};
-ghost use Prim.Native.Nat.{_<_};
-ghost use Rattle.session.specs.State.{withStream};
 ghost use Rattle.streams.specs.Streams.{changeMetadata, closeStream, createStream, created, deleteStream, described, ended, frameOf, noFrame, shown};
 
 // An audio or a video event with its names; the session stays as it is.
@@ -45,135 +46,113 @@ pub fn created_stream(id: StreamId) -> Stream
     }
 }
 
-// A new stream, under the next number.
-fn with_stream(session: Session, stream: Stream) -> Session
-    requires { ⌜ (session .«next_stream» ≡ 4294967295 → ⊥) × (session .«stream_count» < 16) ⌝ }
-    ensures { λ r. ⌜ r ≡ withStream session stream ⌝ }
+pub fn create_stream(desk: Desk, transaction: u64) -> Decision
+    ensures { λ r. ⌜ r ≡ createStream desk transaction ⌝ }
 {
-    let streams = session.streams;
-    let more = append_stream(streams, session.stream_count, stream);
-    let mut t = session;
-    t.next_stream = session.next_stream + 1;
-    t.stream_count = session.stream_count + 1;
-    t.streams = more;
-    t
-}
-
-pub fn create_stream(session: Session, transaction: u64) -> Decision
-    ensures { λ r. ⌜ r ≡ createStream session transaction ⌝ }
-{
-    if session.next_stream == 4294967295 {
-        return refused(Outcome::NumbersUsedUp, session);
+    if desk.next_stream == 4294967295 {
+        return refused(Outcome::NumbersUsedUp);
     }
-    if 16 <= session.stream_count {
-        return refused(Outcome::StreamsFull, session);
+    if 16 <= desk.stream_count {
+        return refused(Outcome::StreamsFull);
     }
-    let stream = StreamId(session.next_stream);
-    let next = with_stream(session, created_stream(stream));
+    let stream = StreamId(desk.next_stream);
+    let change = of_stream(Effect::StreamMade, created_stream(stream));
     replied(
         Reply::StreamCreated {
             transaction,
             stream,
         },
         empty_name(),
-        next,
+        change,
     )
 }
 
 // The event of a stream that ends, if it was in use.
-fn end_stream(state: StreamState, app: Name, key: Name, next: Session) -> Decision
-    ensures { λ r. ⌜ r ≡ ended state app key next ⌝ }
+fn end_stream(state: StreamState, app: Name, key: Name, change: Change) -> Decision
+    ensures { λ r. ⌜ r ≡ ended state app key change ⌝ }
 {
     match state {
-        StreamState::Created => quiet(next),
+        StreamState::Created => quiet(change),
         StreamState::Publishing => raised(
             Event::PublishStreamFinished,
             app,
             key,
             no_metadata(),
-            next,
+            change,
         ),
-        StreamState::Playing => raised(Event::PlayStreamFinished, app, key, no_metadata(), next),
-        StreamState::Completed => quiet(next),
+        StreamState::Playing => raised(Event::PlayStreamFinished, app, key, no_metadata(), change),
+        StreamState::Completed => quiet(change),
     }
 }
 
-pub fn close_stream(session: Session, id: StreamId) -> Decision
-    ensures { λ r. ⌜ r ≡ closeStream session id ⌝ }
+pub fn close_stream(desk: Desk) -> Decision
+    ensures { λ r. ⌜ r ≡ closeStream desk ⌝ }
 {
-    if !is_connected(session) {
-        return quiet(session);
+    if !desk.connected {
+        return nothing_done();
     }
-    let streams = session.streams;
-    let place = find_stream(streams, session.stream_count, id);
-    if !place.found {
-        return quiet(session);
+    let seen = desk.seen;
+    if !seen.found {
+        return nothing_done();
     }
-    let stream = place.stream;
+    let stream = seen.stream;
     let state = stream.state;
-    let app = session.app;
+    let app = desk.app;
     let key = stream.key;
-    let next = with_changed(session, created_stream(id));
-    end_stream(state, app, key, next)
+    let change = of_stream(Effect::StreamSet, created_stream(stream.id));
+    end_stream(state, app, key, change)
 }
 
-pub fn delete_stream(session: Session, id: StreamId) -> Decision
-    ensures { λ r. ⌜ r ≡ deleteStream session id ⌝ }
+pub fn delete_stream(desk: Desk) -> Decision
+    ensures { λ r. ⌜ r ≡ deleteStream desk ⌝ }
 {
-    if !is_connected(session) {
-        return quiet(session);
+    if !desk.connected {
+        return nothing_done();
     }
-    let streams = session.streams;
-    let place = find_stream(streams, session.stream_count, id);
-    if !place.found {
-        return quiet(session);
+    let seen = desk.seen;
+    if !seen.found {
+        return nothing_done();
     }
-    let stream = place.stream;
+    let stream = seen.stream;
     let state = stream.state;
-    let app = session.app;
+    let app = desk.app;
     let key = stream.key;
-    end_stream(state, app, key, without_stream(session, id))
+    let change = of_stream(Effect::StreamRemoved, stream);
+    end_stream(state, app, key, change)
 }
 
 // The metadata of a publishing stream; an encoder that is too long is refused only here.
-fn describe(
-    state: StreamState,
-    session: Session,
-    key: Name,
-    fits: bool,
-    m: StreamMetadata,
-) -> Decision
-    ensures { λ r. ⌜ r ≡ described state session key fits m ⌝ }
+fn describe(state: StreamState, app: Name, key: Name, fits: bool, m: StreamMetadata) -> Decision
+    ensures { λ r. ⌜ r ≡ described state app key fits m ⌝ }
 {
     match state {
-        StreamState::Created => quiet(session),
+        StreamState::Created => nothing_done(),
         StreamState::Publishing => {
             if fits {
-                let app = session.app;
-                return raised(Event::StreamMetadataChanged, app, key, m, session);
+                return raised(Event::StreamMetadataChanged, app, key, m, no_change());
             }
-            refused(Outcome::NameTooLong, session)
+            refused(Outcome::NameTooLong)
         }
-        StreamState::Playing => quiet(session),
-        StreamState::Completed => quiet(session),
+        StreamState::Playing => nothing_done(),
+        StreamState::Completed => nothing_done(),
     }
 }
 
-pub fn change_metadata(session: Session, id: StreamId, fits: bool, m: StreamMetadata) -> Decision
-    ensures { λ r. ⌜ r ≡ changeMetadata session id fits m ⌝ }
+pub fn change_metadata(desk: Desk, fits: bool, m: StreamMetadata) -> Decision
+    ensures { λ r. ⌜ r ≡ changeMetadata desk fits m ⌝ }
 {
-    if !is_connected(session) {
-        return quiet(session);
+    if !desk.connected {
+        return nothing_done();
     }
-    let streams = session.streams;
-    let place = find_stream(streams, session.stream_count, id);
-    if !place.found {
-        return quiet(session);
+    let seen = desk.seen;
+    if !seen.found {
+        return nothing_done();
     }
-    let stream = place.stream;
+    let stream = seen.stream;
     let state = stream.state;
+    let app = desk.app;
     let key = stream.key;
-    describe(state, session, key, fits, m)
+    describe(state, app, key, fits, m)
 }
 
 fn no_frame() -> Frame
