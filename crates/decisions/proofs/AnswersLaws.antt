@@ -1,75 +1,68 @@
--- The cases of the application's decisions.
+-- The application's decisions, by what the code found.
 use mathlib.Core.Path.{_≡_, sym, ap, _∙_}
 use mathlib.Core.Bool.{Bool, true, false}
-use mathlib.Core.Option.{Option, some, none}
-use Rattle.numbers.specs.Choose.{pick}
 use Rattle.text.specs.Names.{emptyName}
-use Rattle.text.specs.declared.ids.RequestId.{RequestId}
 use Rattle.text.specs.declared.ids.StreamId.{StreamId}
-use Rattle.text.specs.declared.names.Name.{Name}
 use Rattle.tables.specs.declared.requests.Request.{Request}
+use Rattle.tables.specs.declared.requests.RequestFound.{RequestFound}
 use Rattle.tables.specs.declared.requests.RequestKind.{RequestKind}
 use Rattle.tables.specs.declared.streams.Stream.{Stream}
+use Rattle.tables.specs.declared.streams.StreamFound.{StreamFound}
 use Rattle.tables.specs.declared.streams.StreamState.{StreamState}
 use Rattle.wishes.specs.declared.outcome.Action.{Action}
 use Rattle.wishes.specs.declared.outcome.Action.the-variants.{Complete}
 use Rattle.wishes.specs.declared.outcome.Outcome.the-variants.{NoSuchRequest, TextTooLong, WrongStream}
-use Rattle.session.specs.Decisions.{refusing, replying}
-use Rattle.session.specs.State.{requestOf, streamOf, withChanged, withoutRequest}
+use Rattle.session.specs.Changes.{dropping, granting}
+use Rattle.session.specs.Decisions.{refusing, refusingWith, replying}
 use Rattle.session.specs.declared.decision.Decision.{Decision}
 use Rattle.session.specs.declared.decision.Reply.{Reply}
-use Rattle.session.specs.declared.session.Session.{Session}
-use Rattle.decisions.specs.Answers.{acceptRequest, finishPlaying, finished, finishedFound, granted, onWaiting, rejectRequest, rejection, settled}
+use Rattle.decisions.specs.Answers.{acceptRequest, finishPlaying, finished, granted, onWaiting, rejectRequest, rejection, settled}
 
-pub settled-told : (o p : Option Stream) (action : Action) (r : Request) (s : Session) (reply : Reply) (e : Stream) (d : Decision) → d ≡ settled p action r s reply e → o ≡ p → d ≡ settled o action r s reply e
-settled-told o p action r s reply e d k q = k ∙ ap (λ (x : Option Stream). settled x action r s reply e) (sym q)
+module _ (found : Bool) (action : Action) (r : Request) (reply : Reply) (e : Stream) (d : Decision) where
+  pub settle-there : d ≡ replying reply (r .name) (granting r e) → found ≡ true → d ≡ settled found action r reply e
+  unfolding settled
+  settle-there k q = k ∙ simp q
 
-pub granted-told : (x y : RequestKind) (r : Request) (s : Session) (d : Decision) → d ≡ granted y r s → x ≡ y → d ≡ granted x r s
-granted-told x y r s d k q = k ∙ ap (λ (z : RequestKind). granted z r s) (sym q)
+  pub settle-missing : d ≡ refusingWith (WrongStream action (r .stream)) (dropping r) → found ≡ false → d ≡ settled found action r reply e
+  unfolding settled
+  settle-missing k q = k ∙ simp q
+
+pub granted-told : (x y : RequestKind) (r : Request) (found : Bool) (d : Decision) → d ≡ granted y r found → x ≡ y → d ≡ granted x r found
+granted-told x y r found d k q = k ∙ ap (λ (z : RequestKind). granted z r found) (sym q)
 
 pub rejection-told : (x y : RequestKind) (r : Request) → x ≡ y → rejection y r ≡ rejection x r
 rejection-told x y r q = ap (λ (z : RequestKind). rejection z r) (sym q)
 
-pub finished-told : (x y : StreamState) (id : StreamId) (e : Stream) (s : Session) (d : Decision) → d ≡ finished y id e s → x ≡ y → d ≡ finished x id e s
-finished-told x y id e s d k q = k ∙ ap (λ (z : StreamState). finished z id e s) (sym q)
+pub finished-told : (x y : StreamState) (id : StreamId) (e : Stream) (d : Decision) → d ≡ finished y id e → x ≡ y → d ≡ finished x id e
+finished-told x y id e d k q = k ∙ ap (λ (z : StreamState). finished z id e) (sym q)
 
-module _ (s : Session) (d : Decision) where
-  module _ (id : RequestId) where
-    unfoldable accepts : Request → Decision
-    accepts r = granted (r .kind) r (withoutRequest s (id .0))
+-- ---- a request that waits, or not
+module _ (q : RequestFound) (d : Decision) where
+  pub accept-none : (found : Bool) → d ≡ refusing NoSuchRequest → q .found ≡ false → d ≡ acceptRequest q found
+  unfolding acceptRequest onWaiting
+  accept-none found k h = k ∙ simp h
 
-    pub accept-none : d ≡ refusing NoSuchRequest s → requestOf s (id .0) ≡ none → d ≡ acceptRequest s id
-    unfolding acceptRequest accepts
-    accept-none k q = k ∙ ap (λ (o : Option Request). onWaiting o s accepts) (sym q)
+  pub accept-some : (found : Bool) → d ≡ granted (q .request .kind) (q .request) found → q .found ≡ true → d ≡ acceptRequest q found
+  unfolding acceptRequest onWaiting
+  accept-some found k h = k ∙ simp h
 
-    pub accept-some : (r : Request) (t : Session) → d ≡ granted (r .kind) r t → t ≡ withoutRequest s (id .0) → requestOf s (id .0) ≡ some r → d ≡ acceptRequest s id
-    unfolding acceptRequest accepts
-    accept-some r t k e q = k ∙ ap (granted (r .kind) r) e ∙ ap (λ (o : Option Request). onWaiting o s accepts) (sym q)
+  pub reject-none : (short : Bool) → d ≡ refusing NoSuchRequest → q .found ≡ false → d ≡ rejectRequest q short
+  unfolding rejectRequest onWaiting
+  reject-none short k h = k ∙ simp h
 
-    module _ (short : Bool) where
-      unfoldable rejects : Request → Decision
-      rejects r = pick short (replying (rejection (r .kind) r) emptyName (withoutRequest s (id .0))) (refusing TextTooLong s)
+  pub reject-long : (short : Bool) → d ≡ refusing TextTooLong → short ≡ false → q .found ≡ true → d ≡ rejectRequest q short
+  unfolding rejectRequest onWaiting
+  reject-long short k b h = k ∙ simp (h, b)
 
-      pub reject-none : d ≡ refusing NoSuchRequest s → requestOf s (id .0) ≡ none → d ≡ rejectRequest s id short
-      unfolding rejectRequest rejects
-      reject-none k q = k ∙ ap (λ (o : Option Request). onWaiting o s rejects) (sym q)
+  pub reject-some : (short : Bool) → d ≡ replying (rejection (q .request .kind) (q .request)) emptyName (dropping (q .request)) → short ≡ true → q .found ≡ true → d ≡ rejectRequest q short
+  unfolding rejectRequest onWaiting
+  reject-some short k b h = k ∙ simp (h, b)
 
-      pub reject-long : (r : Request) → d ≡ refusing TextTooLong s → short ≡ false → requestOf s (id .0) ≡ some r → d ≡ rejectRequest s id short
-      unfolding rejectRequest rejects
-      reject-long r k b q = k ∙ ap (λ (t : Bool). pick t (replying (rejection (r .kind) r) emptyName (withoutRequest s (id .0))) (refusing TextTooLong s)) (sym b) ∙ ap (λ (o : Option Request). onWaiting o s rejects) (sym q)
+module _ (e : StreamFound) (id : StreamId) (d : Decision) where
+  pub finish-none : d ≡ refusing (WrongStream Complete id) → e .found ≡ false → d ≡ finishPlaying e id
+  unfolding finishPlaying
+  finish-none k h = k ∙ simp h
 
-      pub reject-some : (r : Request) (reply : Reply) (name : Name) (t : Session) → d ≡ replying reply name t → reply ≡ rejection (r .kind) r → name ≡ emptyName → t ≡ withoutRequest s (id .0) → short ≡ true → requestOf s (id .0) ≡ some r → d ≡ rejectRequest s id short
-      unfolding rejectRequest rejects
-      reject-some r reply name t k e f g b q =
-          k ∙ (λ i. replying (e i) (f i) (g i))
-          ∙ ap (λ (x : Bool). pick x (replying (rejection (r .kind) r) emptyName (withoutRequest s (id .0))) (refusing TextTooLong s)) (sym b)
-          ∙ ap (λ (o : Option Request). onWaiting o s rejects) (sym q)
-
-  module _ (id : StreamId) where
-    pub finish-none : d ≡ refusing (WrongStream Complete id) s → streamOf s (id .0) ≡ none → d ≡ finishPlaying s id
-    unfolding finishPlaying
-    finish-none k q = k ∙ ap (λ (o : Option Stream). finishedFound o id s) (sym q)
-
-    pub finish-some : (e : Stream) → d ≡ finished (e .state) id e s → streamOf s (id .0) ≡ some e → d ≡ finishPlaying s id
-    unfolding finishPlaying
-    finish-some e k q = k ∙ ap (λ (o : Option Stream). finishedFound o id s) (sym q)
+  pub finish-some : d ≡ finished (e .stream .state) id (e .stream) → e .found ≡ true → d ≡ finishPlaying e id
+  unfolding finishPlaying
+  finish-some k h = k ∙ simp h

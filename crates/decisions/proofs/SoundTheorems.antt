@@ -1,9 +1,11 @@
--- A session that passes the tests of refusal 15 passes them after every decision of the application, so that none that we hand back meets 15.
+-- Every decision of the application changes a session by what fits it.
 use mathlib.Core.Path.{_≡_, refl}
 use Prim.Native.Nat.{_≤_}
-use mathlib.Core.Bool.{Bool}
-use mathlib.Core.Option.{Option, some, none}
+use mathlib.Core.Bool.{Bool, true, false}
+use mathlib.Core.Option.{some}
 use lib.Dec.{lit≤}
+use Rattle.numbers.specs.Choose.{pick}
+use Rattle.numbers.proofs.ChooseLaws.{pick-elim}
 use Rattle.text.specs.declared.ids.RequestId.{RequestId}
 use Rattle.text.specs.declared.ids.StreamId.{StreamId}
 use Rattle.tables.specs.declared.requests.Request.{Request}
@@ -14,46 +16,43 @@ use Rattle.tables.specs.declared.streams.StreamState.{StreamState}
 use Rattle.tables.specs.declared.streams.StreamState.the-variants.{Created, Publishing, Playing, Completed}
 use Rattle.wishes.specs.declared.outcome.Action.{Action}
 use Rattle.wishes.specs.declared.outcome.Action.the-variants.{Publish as Publishes, Play as Plays}
-use Rattle.session.specs.State.{requestOf, streamOf, withoutRequest}
+use Rattle.session.specs.State.{requestAt, requestOf, streamAt}
 use Rattle.session.specs.declared.decision.Decision.{Decision}
 use Rattle.session.specs.declared.decision.Reply.{Reply}
-use Rattle.session.specs.declared.decision.Reply.the-variants.{PlayAccepted, PublishAccepted}
 use Rattle.session.specs.declared.session.Session.{Session}
-use Rattle.session.proofs.SoundTheorems.{Sound, app-set, either, request-removed, request-short, stream-changed}
-use Rattle.decisions.specs.Answers.{acceptRequest, completed, finishPlaying, finished, finishedFound, granted, onWaiting, playing, publishing, rejectRequest, settled}
+use Rattle.session.proofs.FitsLaws.{Fits, either, request-there}
+use Rattle.session.proofs.SoundTheorems.{Sound, request-short}
+use Rattle.decisions.specs.Answers.{accepted, acceptRequest, finishPlaying, finished, finishedOn, granted, onWaiting, playing, publishing, rejectRequest, rejected, settled}
 
-module _ (s : Session) (h : Sound s) where
-  waiting : (o : Option Request) (f : Request → Decision) → ((r : Request) → o ≡ some r → Sound (f r .session)) → Sound (onWaiting o s f .session)
-  waiting none f k = h
-  waiting (some r) f k = k r refl
+module _ (s : Session) where
+  pub rejected-fits : (id : RequestId) (short : Bool) → Fits s (rejected s id short .change)
+  unfolding rejectRequest onWaiting
+  rejected-fits id short = pick-elim (λ (d : Decision). Fits s (d .change)) _ _ (requestAt s id .found) (λ h. either s short _ _ (request-there s id h) tt) (λ h. tt)
 
-  pub rejected-sound : (id : RequestId) (short : Bool) → Sound (rejectRequest s id short .session)
-  unfolding rejectRequest
-  rejected-sound id short = waiting (requestOf s (id .0)) _ (λ r f. either short _ _ (request-removed s h (id .0) r f) h)
+  finishes : (x : StreamState) (id : StreamId) (e : Stream) → Fits s (finished x id e .change)
+  finishes Created id e = tt
+  finishes Publishing id e = tt
+  finishes Playing id e = lit≤ tt
+  finishes Completed id e = tt
 
-  finishes : (x : StreamState) (id : StreamId) (e : Stream) → Sound (finished x id e s .session)
-  finishes Created id e = h
-  finishes Publishing id e = h
-  finishes Playing id e = stream-changed s h (completed id) (lit≤ tt)
-  finishes Completed id e = h
-
-  finish-found : (o : Option Stream) (id : StreamId) → Sound (finishedFound o id s .session)
-  finish-found none id = h
-  finish-found (some e) id = finishes (e .state) id e
-
-  pub finished-sound : (id : StreamId) → Sound (finishPlaying s id .session)
+  pub finished-fits : (id : StreamId) → Fits s (finishedOn s id .change)
   unfolding finishPlaying
-  finished-sound id = finish-found (streamOf s (id .0)) id
+  finished-fits id = either s (streamAt s id .found) _ _ (finishes (streamAt s id .stream .state) id (streamAt s id .stream)) tt
 
-settle : (t : Session) (g : Sound t) (o : Option Stream) (action : Action) (r : Request) (reply : Reply) (x : Stream) → x .key .len ≤ 128 → Sound (settled o action r t reply x .session)
-settle t g none action r reply x k = g
-settle t g (some old) action r reply x k = stream-changed t g x k
+  module _ (r : Request) (there : requestOf s (r .id .0) ≡ some r) (short : r .name .len ≤ 128) where
+    settle : (found : Bool) (action : Action) (reply : Reply) (x : Stream) → x .key .len ≤ 128 → Fits s (settled found action r reply x .change)
+    unfolding settled
+    settle true action reply x k = (there, k)
+    settle false action reply x k = there
 
-grants : (t : Session) (g : Sound t) (k : RequestKind) (r : Request) → r .name .len ≤ 128 → Sound (granted k r t .session)
-grants t g ConnectKind r m = app-set t g (r .name) m
-grants t g PublishKind r m = settle t g (streamOf t (r .stream .0)) Publishes r (PublishAccepted (r .stream)) (publishing r) m
-grants t g PlayKind r m = settle t g (streamOf t (r .stream .0)) Plays r (PlayAccepted (r .stream)) (playing r) m
+    grants : (k : RequestKind) (found : Bool) → Fits s (granted k r found .change)
+    grants ConnectKind found = there
+    grants PublishKind found = settle found Publishes _ (publishing r) short
+    grants PlayKind found = settle found Plays _ (playing r) short
 
-pub accepted-sound : (s : Session) → Sound s → (id : RequestId) → Sound (acceptRequest s id .session)
-unfolding acceptRequest
-accepted-sound s h id = waiting s h (requestOf s (id .0)) _ (λ r f. grants (withoutRequest s (id .0)) (request-removed s h (id .0) r f) (r .kind) r (request-short s h (id .0) r f))
+  pub accepted-fits : Sound s → (id : RequestId) → Fits s (accepted s id .change)
+  unfolding acceptRequest onWaiting
+  accepted-fits h id =
+      let r = requestAt s id .request in
+      pick-elim (λ (d : Decision). Fits s (d .change)) _ _ (requestAt s id .found)
+      (λ f. grants r (request-there s id f) (request-short s h (r .id .0) r (request-there s id f)) (r .kind) (streamAt s (r .stream) .found)) (λ f. tt)

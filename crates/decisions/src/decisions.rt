@@ -1,115 +1,116 @@
 // The application's decisions: accept and reject a request, finish a play.
+use session::Change;
 use session::Decision;
+use session::Effect;
 use session::Reply;
-use session::Session;
-use session::connected_to;
+use session::of_request;
+use session::of_stream;
 use session::refused;
+use session::refused_with;
 use session::replied;
-use session::with_changed;
-use session::without_request;
 use tables::Request;
+use tables::RequestFound;
 use tables::RequestKind;
 use tables::Stream;
+use tables::StreamFound;
 use tables::StreamState;
-use tables::find_request;
-use tables::find_stream;
 use text::PublishMode;
-use text::RequestId;
 use text::StreamId;
 use text::empty_name;
 use wishes::Action;
 use wishes::Outcome;
 ghost use mathlib.Core.Path.{_≡_};
-ghost use Rattle.decisions.specs.Answers.{acceptRequest, completed, finishPlaying, finished, granted, rejectRequest, rejection, settled};
+ghost use Rattle.decisions.specs.Answers.{acceptRequest, completed, finishPlaying, finished, granted, playing, publishing, rejectRequest, rejection, settled};
 ghost use Rattle.session.specs.Decisions.{refusing};
-ghost use Rattle.session.specs.State.{streamOf};
 ghost use Rattle.wishes.specs.declared.outcome.Action.the-variants.{Complete as Completes};
 ghost use Rattle.wishes.specs.declared.outcome.Outcome.the-variants.{WrongStream};
 
 // The request's stream becomes this one; where it is missing, the request is gone all the same.
-fn settle(
-    session: Session,
-    action: Action,
-    request: Request,
-    reply: Reply,
-    stream: Stream,
-) -> Decision
-    ensures { λ r. ⌜ r ≡ settled (streamOf session (request .stream .0)) action request session reply stream ⌝ }
+fn settle(found: bool, action: Action, request: Request, reply: Reply, stream: Stream) -> Decision
+    ensures { λ r. ⌜ r ≡ settled found action request reply stream ⌝ }
 {
     let id = request.stream;
-    let streams = session.streams;
-    let place = find_stream(streams, session.stream_count, id);
-    if !place.found {
-        return refused(Outcome::WrongStream { action, stream: id }, session);
+    if found {
+        let name = request.name;
+        let change = Change {
+            effect: Effect::StreamAccepted,
+            stream,
+            request,
+        };
+        return replied(reply, name, change);
     }
-    let name = request.name;
-    let next = with_changed(session, stream);
-    replied(reply, name, next)
+    let outcome = Outcome::WrongStream { action, stream: id };
+    refused_with(outcome, of_request(Effect::RequestRemoved, request))
 }
 
-// What an accepted request brings about; the session is already without it.
-fn grant(kind: RequestKind, request: Request, session: Session) -> Decision
-    ensures { λ r. ⌜ r ≡ granted kind request session ⌝ }
+fn publishing_stream(request: Request) -> Stream
+    ensures { λ r. ⌜ r ≡ publishing request ⌝ }
+{
+    let id = request.stream;
+    let mode = request.mode;
+    let key = request.name;
+    Stream {
+        id,
+        state: StreamState::Publishing,
+        mode,
+        key,
+    }
+}
+
+fn playing_stream(request: Request) -> Stream
+    ensures { λ r. ⌜ r ≡ playing request ⌝ }
+{
+    let id = request.stream;
+    let key = request.name;
+    Stream {
+        id,
+        state: StreamState::Playing,
+        mode: PublishMode::Live,
+        key,
+    }
+}
+
+// What an accepted request brings about.
+fn grant(kind: RequestKind, request: Request, found: bool) -> Decision
+    ensures { λ r. ⌜ r ≡ granted kind request found ⌝ }
 {
     let id = request.stream;
     let name = request.name;
     match kind {
-        RequestKind::Connect => {
-            let next = connected_to(session, name);
-            replied(
-                Reply::ConnectAccepted {
-                    transaction: request.transaction,
-                },
-                name,
-                next,
-            )
-        }
-        RequestKind::Publish => {
-            let mode = request.mode;
-            let stream = Stream {
-                id,
-                state: StreamState::Publishing,
-                mode,
-                key: name,
-            };
-            settle(
-                session,
-                Action::Publish,
-                request,
-                Reply::PublishAccepted(id),
-                stream,
-            )
-        }
-        RequestKind::Play => {
-            let stream = Stream {
-                id,
-                state: StreamState::Playing,
-                mode: PublishMode::Live,
-                key: name,
-            };
-            settle(
-                session,
-                Action::Play,
-                request,
-                Reply::PlayAccepted(id),
-                stream,
-            )
-        }
+        RequestKind::Connect => replied(
+            Reply::ConnectAccepted {
+                transaction: request.transaction,
+            },
+            name,
+            of_request(Effect::ConnectAccepted, request),
+        ),
+        RequestKind::Publish => settle(
+            found,
+            Action::Publish,
+            request,
+            Reply::PublishAccepted(id),
+            publishing_stream(request),
+        ),
+        RequestKind::Play => settle(
+            found,
+            Action::Play,
+            request,
+            Reply::PlayAccepted(id),
+            playing_stream(request),
+        ),
     }
 }
 
-pub fn accept(session: Session, id: RequestId) -> Decision
-    ensures { λ r. ⌜ r ≡ acceptRequest session id ⌝ }
+// `found`: whether the request's stream is there.
+pub fn accept(waiting: RequestFound, found: bool) -> Decision
+    ensures { λ r. ⌜ r ≡ acceptRequest waiting found ⌝ }
 {
-    let requests = session.requests;
-    let place = find_request(requests, session.request_count, id);
-    if !place.found {
-        return refused(Outcome::NoSuchRequest, session);
+    if !waiting.found {
+        return refused(Outcome::NoSuchRequest);
     }
-    let request = place.request;
+    let request = waiting.request;
     let kind = request.kind;
-    let left = without_request(session, id);
-    grant(kind, request, left)
+    grant(kind, request, found)
 }
 
 fn reject_reply(kind: RequestKind, request: Request) -> Reply
@@ -133,34 +134,28 @@ fn reject_reply(kind: RequestKind, request: Request) -> Reply
 }
 
 // `short`: neither the code nor the description is over 256 bytes.
-pub fn reject(session: Session, id: RequestId, short: bool) -> Decision
-    ensures { λ r. ⌜ r ≡ rejectRequest session id short ⌝ }
+pub fn reject(waiting: RequestFound, short: bool) -> Decision
+    ensures { λ r. ⌜ r ≡ rejectRequest waiting short ⌝ }
 {
-    let requests = session.requests;
-    let place = find_request(requests, session.request_count, id);
-    if !place.found {
-        return refused(Outcome::NoSuchRequest, session);
+    if !waiting.found {
+        return refused(Outcome::NoSuchRequest);
     }
     if !short {
-        return refused(Outcome::TextTooLong, session);
+        return refused(Outcome::TextTooLong);
     }
-    let request = place.request;
+    let request = waiting.request;
     let kind = request.kind;
     let reply = reject_reply(kind, request);
-    let left = without_request(session, id);
-    replied(reply, empty_name(), left)
+    replied(reply, empty_name(), of_request(Effect::RequestRemoved, request))
 }
 
-fn not_playing(id: StreamId, session: Session) -> Decision
-    ensures { λ r. ⌜ r ≡ refusing (WrongStream Completes id) session ⌝ }
+fn not_playing(id: StreamId) -> Decision
+    ensures { λ r. ⌜ r ≡ refusing (WrongStream Completes id) ⌝ }
 {
-    refused(
-        Outcome::WrongStream {
-            action: Action::Complete,
-            stream: id,
-        },
-        session,
-    )
+    refused(Outcome::WrongStream {
+        action: Action::Complete,
+        stream: id,
+    })
 }
 
 fn completed_stream(id: StreamId) -> Stream
@@ -175,30 +170,28 @@ fn completed_stream(id: StreamId) -> Stream
     }
 }
 
-fn complete(state: StreamState, id: StreamId, stream: Stream, session: Session) -> Decision
-    ensures { λ r. ⌜ r ≡ finished state id stream session ⌝ }
+fn complete(state: StreamState, id: StreamId, stream: Stream) -> Decision
+    ensures { λ r. ⌜ r ≡ finished state id stream ⌝ }
 {
     match state {
-        StreamState::Created => not_playing(id, session),
-        StreamState::Publishing => not_playing(id, session),
+        StreamState::Created => not_playing(id),
+        StreamState::Publishing => not_playing(id),
         StreamState::Playing => {
             let key = stream.key;
-            let next = with_changed(session, completed_stream(id));
-            replied(Reply::PlayFinished(id), key, next)
+            let change = of_stream(Effect::StreamSet, completed_stream(id));
+            replied(Reply::PlayFinished(id), key, change)
         }
-        StreamState::Completed => not_playing(id, session),
+        StreamState::Completed => not_playing(id),
     }
 }
 
-pub fn finish(session: Session, id: StreamId) -> Decision
-    ensures { λ r. ⌜ r ≡ finishPlaying session id ⌝ }
+pub fn finish(seen: StreamFound, id: StreamId) -> Decision
+    ensures { λ r. ⌜ r ≡ finishPlaying seen id ⌝ }
 {
-    let streams = session.streams;
-    let place = find_stream(streams, session.stream_count, id);
-    if !place.found {
-        return not_playing(id, session);
+    if !seen.found {
+        return not_playing(id);
     }
-    let stream = place.stream;
+    let stream = seen.stream;
     let state = stream.state;
-    complete(state, id, stream, session)
+    complete(state, id, stream)
 }
