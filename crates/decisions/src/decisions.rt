@@ -146,7 +146,11 @@ pub fn reject(waiting: RequestFound, short: bool) -> Decision
     let request = waiting.request;
     let kind = request.kind;
     let reply = reject_reply(kind, request);
-    replied(reply, empty_name(), of_request(Effect::RequestRemoved, request))
+    replied(
+        reply,
+        empty_name(),
+        of_request(Effect::RequestRemoved, request),
+    )
 }
 
 fn not_playing(id: StreamId) -> Decision

@@ -25,9 +25,7 @@ pub enum Effect {
     StreamSet,
     StreamRemoved,
     RequestFiled,
-    ConnectFiled {
-        encoding: u64,
-    },
+    ConnectFiled { encoding: u64 },
     ConnectAccepted,
     StreamAccepted,
     RequestRemoved,
@@ -178,12 +176,7 @@ fn connected_to(session: Session, app: Name) -> Session
     }
 }
 
-fn apply_effect(
-    effect: Effect,
-    session: Session,
-    stream: Stream,
-    request: Request,
-) -> Session
+fn apply_effect(effect: Effect, session: Session, stream: Stream, request: Request) -> Session
     ensures { λ r. ⌜ r ≡ appliedBy effect session stream request ⌝ }
 {
     match effect {
@@ -192,7 +185,10 @@ fn apply_effect(
         Effect::StreamSet => with_changed(session, stream),
         Effect::StreamRemoved => without_stream(session, stream.id),
         Effect::RequestFiled => with_request(session, request),
-        Effect::ConnectFiled { encoding } => with_encoding(with_request(session, request), encoding),
+        Effect::ConnectFiled { encoding } => with_encoding(
+            with_request(session, request),
+            encoding,
+        ),
         Effect::ConnectAccepted => {
             let name = request.name;
             connected_to(without_request(session, request.id), name)

@@ -7,12 +7,15 @@ use Rattle.metadata.specs.declared.metadata.StreamMetadata.{StreamMetadata}
 use Rattle.wishes.specs.declared.wish.Want.{Want}
 use Rattle.wishes.specs.declared.wish.Wish.{Wish}
 use Rattle.session.specs.declared.decision.Decision.{Decision}
-use Rattle.session.specs.declared.session.Session.{Session}
-use Rattle.steps.specs.Deciding.{decide, decideWant}
+use Rattle.session.specs.declared.desk.Desk.{Desk}
+use Rattle.steps.specs.Deciding.{decide, decideWant, subjectOf}
 
-pub want-told : (v w : Want) (s : Session) (x : StreamId) (fits : Bool) (name : Name) (m : StreamMetadata) (d : Decision) → d ≡ decideWant w s x fits name m → v ≡ w → d ≡ decideWant v s x fits name m
-want-told v w s x fits name m d e q = e ∙ ap (λ (z : Want). decideWant z s x fits name m) (sym q)
+pub subject-told : (v w : Want) (x y : StreamId) → y ≡ subjectOf w x → v ≡ w → y ≡ subjectOf v x
+subject-told v w x y e q = e ∙ ap (λ (z : Want). subjectOf z x) (sym q)
 
-pub decided : (s : Session) (x : StreamId) (w : Wish) (d : Decision) → d ≡ decideWant (w .want) s x (w .fits) (w .name) (w .metadata) → d ≡ decide s x w
+pub want-told : (v w : Want) (d : Desk) (x : StreamId) (fits : Bool) (name : Name) (m : StreamMetadata) (a : Decision) → a ≡ decideWant w d x fits name m → v ≡ w → a ≡ decideWant v d x fits name m
+want-told v w d x fits name m a e q = e ∙ ap (λ (z : Want). decideWant z d x fits name m) (sym q)
+
+pub decided : (d : Desk) (x : StreamId) (w : Wish) (a : Decision) → a ≡ decideWant (w .want) d x (w .fits) (w .name) (w .metadata) → a ≡ decide d x w
 unfolding decide
-decided s x w d e = e
+decided d x w a e = e

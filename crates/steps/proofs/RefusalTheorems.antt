@@ -2,7 +2,6 @@
 use mathlib.Core.Path.{refl}
 use Prim.Native.Nat.{ℕ}
 use mathlib.Core.Bool.{Bool}
-use mathlib.Core.Option.{Option, some, none}
 use lib.Dec.{eqb, leb}
 use Rattle.text.specs.declared.ids.StreamId.{StreamId}
 use Rattle.text.specs.declared.names.Name.{Name}
@@ -18,81 +17,79 @@ use Rattle.wishes.specs.declared.wish.PublishArguments.the-variants.{TooFew, Ke
 use Rattle.wishes.specs.declared.wish.Want.{Want}
 use Rattle.wishes.specs.declared.wish.Want.the-variants.{Nothing, Refused, Connect, CreateStream, CloseStream, DeleteStream, Publish, Play, Metadata, PingRequest, PingResponse}
 use Rattle.wishes.specs.declared.wish.Wish.{Wish}
-use Rattle.session.specs.State.{connected, streamOf}
 use Rattle.session.specs.declared.decision.CommandFault.{CommandFault}
 use Rattle.session.specs.declared.decision.Decision.{Decision}
+use Rattle.session.specs.Desk.{deskOf}
+use Rattle.session.specs.declared.changes.Change.{Change}
+use Rattle.session.specs.declared.desk.Desk.{Desk}
 use Rattle.session.specs.declared.session.Session.{Session}
 use Rattle.session.proofs.RefusalTheorems.{Fate, done, either, kept}
-use Rattle.streams.specs.Streams.{createStream, described, ended, onFound, onStream}
+use Rattle.streams.specs.Streams.{createStream, described, ended, onStream}
 use Rattle.steps.specs.Commands.{asking, filing, onRoom, play, publish, requestRoom}
-use Rattle.steps.specs.Deciding.{decide, decideWant}
+use Rattle.steps.specs.Deciding.{decide, decideWant, decided, subjectOf}
 use Rattle.steps.specs.declared.commands.Room.{Room}
 use Rattle.steps.specs.declared.commands.Room.the-variants.{Open, Closed}
 
 -- ---- steps that go by a stream
-found : (s : Session) (o : Option Stream) (d : Decision) (f : Stream → Decision) → Fate s d → ((e : Stream) → Fate s (f e)) → Fate s (onFound o d f)
-found s none d f g h = g
-found s (some e) d f g h = h e
-
-on-stream : (s : Session) (id : StreamId) (f : Stream → Decision) → ((e : Stream) → Fate s (f e)) → Fate s (onStream s id f)
+on-stream : (d : Desk) (f : Stream → Decision) → ((e : Stream) → Fate (f e)) → Fate (onStream d f)
 unfolding onStream
-on-stream s id f h = either s (connected s) _ _ (found s (streamOf s (id .0)) _ f (done refl) h) (done refl)
+on-stream d f h = either (d .connected) _ _ (either (d .seen .found) _ _ (h (d .seen .stream)) (done refl)) (done refl)
 
-end : (s : Session) (x : StreamState) (app key : Name) (t : Session) → Fate s (ended x app key t)
-end s Created app key t = done refl
-end s Publishing app key t = done refl
-end s Playing app key t = done refl
-end s Completed app key t = done refl
+end : (x : StreamState) (app key : Name) (c : Change) → Fate (ended x app key c)
+end Created app key c = done refl
+end Publishing app key c = done refl
+end Playing app key c = done refl
+end Completed app key c = done refl
 
-describe : (x : StreamState) (s : Session) (key : Name) (fits : Bool) (m : StreamMetadata) → Fate s (described x s key fits m)
-describe Created s key fits m = done refl
-describe Publishing s key fits m = either s fits _ _ (done refl) (kept NameTooLong refl)
-describe Playing s key fits m = done refl
-describe Completed s key fits m = done refl
+describe : (x : StreamState) (app key : Name) (fits : Bool) (m : StreamMetadata) → Fate (described x app key fits m)
+describe Created app key fits m = done refl
+describe Publishing app key fits m = either fits _ _ (done refl) (kept NameTooLong refl)
+describe Playing app key fits m = done refl
+describe Completed app key fits m = done refl
 
-create : (s : Session) (t : ℕ) → Fate s (createStream s t)
+create : (d : Desk) (t : ℕ) → Fate (createStream d t)
 unfolding createStream
-create s t = either s (eqb (s .«next_stream») 4294967295) _ _ (kept NumbersUsedUp refl) (either s (leb 16 (s .«stream_count»)) _ _ (kept StreamsFull refl) (done refl))
+create d t = either (eqb (d .«next_stream») 4294967295) _ _ (kept NumbersUsedUp refl) (either (leb 16 (d .«stream_count»)) _ _ (kept StreamsFull refl) (done refl))
 
 -- ---- commands that file a request
-room : (s : Session) (r : Room) (d : Decision) → Fate s d → Fate s (onRoom r s d)
-room s Open d f = f
-room s (Closed o) d f = kept o refl
+room : (r : Room) (a : Decision) → Fate a → Fate (onRoom r a)
+room Open a f = f
+room (Closed o) a f = kept o refl
 
-file : (s : Session) (fits : Bool) (d : Decision) → Fate s d → Fate s (filing s fits d)
+file : (d : Desk) (fits : Bool) (a : Decision) → Fate a → Fate (filing d fits a)
 unfolding filing
-file s fits d f = room s (requestRoom s fits) d f
+file d fits a f = room (requestRoom d fits) a f
 
-ask : (s : Session) (id : StreamId) (t : ℕ) (u : CommandFault) (fits : Bool) (d : Decision) → Fate s d → Fate s (asking s id t u fits d)
+ask : (d : Desk) (id : StreamId) (t : ℕ) (u : CommandFault) (fits : Bool) (a : Decision) → Fate a → Fate (asking d id t u fits a)
 unfolding asking
-ask s id t u fits d f = either s (connected s) _ _ (file s fits d f) (done refl)
+ask d id t u fits a f = either (d .connected) _ _ (file d fits a f) (done refl)
 
-publishes : (s : Session) (id : StreamId) (t : ℕ) (x : PublishArguments) (fits : Bool) (key : Name) → Fate s (publish s id t x fits key)
-publishes s id t TooFew fits key = done refl
-publishes s id t KeyNoString fits key = done refl
-publishes s id t ModeNoString fits key = done refl
-publishes s id t ModeUnknown fits key = done refl
-publishes s id t (Good m) fits key = ask s id t _ fits _ (done refl)
+publishes : (d : Desk) (id : StreamId) (t : ℕ) (x : PublishArguments) (fits : Bool) (key : Name) → Fate (publish d id t x fits key)
+publishes d id t TooFew fits key = done refl
+publishes d id t KeyNoString fits key = done refl
+publishes d id t ModeNoString fits key = done refl
+publishes d id t ModeUnknown fits key = done refl
+publishes d id t (Good m) fits key = ask d id t _ fits _ (done refl)
 
-plays : (s : Session) (id : StreamId) (t : ℕ) (x : PlayArguments) (fits : Bool) (key : Name) → Fate s (play s id t x fits key)
-plays s id t PlayTooFew fits key = done refl
-plays s id t PlayKeyNoString fits key = done refl
-plays s id t (PlayGood start duration reset) fits key = ask s id t _ fits _ (done refl)
+plays : (d : Desk) (id : StreamId) (t : ℕ) (x : PlayArguments) (fits : Bool) (key : Name) → Fate (play d id t x fits key)
+plays d id t PlayTooFew fits key = done refl
+plays d id t PlayKeyNoString fits key = done refl
+plays d id t (PlayGood start duration reset) fits key = ask d id t _ fits _ (done refl)
 
 -- ---- every wish
-wants : (w : Want) (s : Session) (x : StreamId) (fits : Bool) (name : Name) (m : StreamMetadata) → Fate s (decideWant w s x fits name m)
-wants Nothing s x fits name m = done refl
-wants (Refused o) s x fits name m = kept o refl
-wants (Connect t e) s x fits name m = file s fits _ (done refl)
-wants (CreateStream t) s x fits name m = create s t
-wants (CloseStream id) s x fits name m = on-stream s id _ (λ e. end s (e .state) _ _ _)
-wants (DeleteStream id) s x fits name m = on-stream s id _ (λ e. end s (e .state) _ _ _)
-wants (Publish t a) s x fits name m = publishes s x t a fits name
-wants (Play t a) s x fits name m = plays s x t a fits name
-wants Metadata s x fits name m = on-stream s x _ (λ e. describe (e .state) s (e .key) fits m)
-wants (PingRequest v) s x fits name m = done refl
-wants (PingResponse v) s x fits name m = done refl
+wants : (w : Want) (d : Desk) (x : StreamId) (fits : Bool) (name : Name) (m : StreamMetadata) → Fate (decideWant w d x fits name m)
+wants Nothing d x fits name m = done refl
+wants (Refused o) d x fits name m = kept o refl
+wants (Connect t e) d x fits name m = file d fits _ (done refl)
+wants (CreateStream t) d x fits name m = create d t
+wants (CloseStream id) d x fits name m = on-stream d _ (λ e. end (e .state) _ _ _)
+wants (DeleteStream id) d x fits name m = on-stream d _ (λ e. end (e .state) _ _ _)
+wants (Publish t a) d x fits name m = publishes d x t a fits name
+wants (Play t a) d x fits name m = plays d x t a fits name
+wants Metadata d x fits name m = on-stream d _ (λ e. describe (e .state) _ (e .key) fits m)
+wants (PingRequest v) d x fits name m = done refl
+wants (PingResponse v) d x fits name m = done refl
 
-pub decided-fate : (s : Session) (x : StreamId) (w : Wish) → Fate s (decide s x w)
-unfolding decide
-decided-fate s x w = wants (w .want) s x (w .fits) (w .name) (w .metadata)
+pub decided-fate : (s : Session) (x : StreamId) (w : Wish) → Fate (decided s x w)
+unfolding decided decide
+decided-fate s x w = wants (w .want) (deskOf s (subjectOf (w .want) x)) x (w .fits) (w .name) (w .metadata)

@@ -4,17 +4,17 @@ use numbers::PlayDuration;
 use numbers::PlayStartValue;
 use session::CommandFault;
 use session::Decision;
+use session::Desk;
+use session::Effect;
 use session::Event;
 use session::Reply;
-use session::Session;
-use session::is_connected;
+use session::no_change;
+use session::of_request;
 use session::raised;
 use session::refused;
 use session::replied;
-use session::with_encoding;
 use tables::Request;
 use tables::RequestKind;
-use tables::append_request;
 use text::Name;
 use text::PublishMode;
 use text::RequestId;
@@ -24,10 +24,9 @@ use wishes::Outcome;
 use wishes::PlayArguments;
 use wishes::PublishArguments;
 ghost use mathlib.Core.Path.{_≡_};
-ghost use Prim.Native.Nat.{_<_};
 ghost use Rattle.steps.specs.Commands.{asking, connect as connectDecision, connectedFault, failing, nextRequest, play as playDecision, playRequest, publish as publishDecision, publishRequest, requestRoom};
+ghost use Rattle.session.specs.Changes.{filingOf};
 ghost use Rattle.session.specs.Decisions.{raising};
-ghost use Rattle.session.specs.State.{withRequest};
 ghost use Rattle.metadata.specs.Metadata.{noMetadata};
 ghost use Rattle.session.specs.declared.decision.CommandFault.the-variants.{PlayUnconnected, PublishUnconnected};
 ghost use Rattle.session.specs.declared.decision.Event.the-variants.{PlayStreamRequested, PublishStreamRequested};
@@ -38,42 +37,28 @@ pub enum Room {
     Closed(Outcome),
 }
 
-fn request_room(session: Session, fits: bool) -> Room
-    ensures { λ r. ⌜ r ≡ requestRoom session fits ⌝ }
+fn request_room(desk: Desk, fits: bool) -> Room
+    ensures { λ r. ⌜ r ≡ requestRoom desk fits ⌝ }
 {
     if !fits {
         return Room::Closed(Outcome::NameTooLong);
     }
-    if session.next_request == 4294967295 {
+    if desk.next_request == 4294967295 {
         return Room::Closed(Outcome::NumbersUsedUp);
     }
-    if 16 <= session.request_count {
+    if 16 <= desk.request_count {
         return Room::Closed(Outcome::RequestsFull);
     }
     Room::Open
 }
 
-// A request, filed under the next number.
-fn with_request(session: Session, request: Request) -> Session
-    requires { ⌜ (session .«next_request» ≡ 4294967295 → ⊥) × (session .«request_count» < 16) ⌝ }
-    ensures { λ r. ⌜ r ≡ withRequest session request ⌝ }
+pub fn connect(desk: Desk, transaction: u64, encoding: u64, fits: bool, app: Name) -> Decision
+    ensures { λ r. ⌜ r ≡ connectDecision desk transaction encoding fits app ⌝ }
 {
-    let requests = session.requests;
-    let more = append_request(requests, session.request_count, request);
-    let mut t = session;
-    t.next_request = session.next_request + 1;
-    t.request_count = session.request_count + 1;
-    t.requests = more;
-    t
-}
-
-pub fn connect(session: Session, transaction: u64, encoding: u64, fits: bool, app: Name) -> Decision
-    ensures { λ r. ⌜ r ≡ connectDecision session transaction encoding fits app ⌝ }
-{
-    match request_room(session, fits) {
-        Room::Closed(outcome) => refused(outcome, session),
+    match request_room(desk, fits) {
+        Room::Closed(outcome) => refused(outcome),
         Room::Open => {
-            let id = RequestId(session.next_request);
+            let id = RequestId(desk.next_request);
             let request = Request {
                 id,
                 kind: RequestKind::Connect,
@@ -82,22 +67,21 @@ pub fn connect(session: Session, transaction: u64, encoding: u64, fits: bool, ap
                 transaction,
                 name: app,
             };
-            let filed = with_request(session, request);
-            let next = with_encoding(filed, encoding);
+            let change = of_request(Effect::ConnectFiled { encoding }, request);
             raised(
                 Event::ConnectionRequested(id),
                 app,
                 empty_name(),
                 no_metadata(),
-                next,
+                change,
             )
         }
     }
 }
 
 // An error record, and nothing else.
-fn fail(transaction: u64, fault: CommandFault, stream: StreamId, session: Session) -> Decision
-    ensures { λ r. ⌜ r ≡ failing transaction fault stream session ⌝ }
+fn fail(transaction: u64, fault: CommandFault, stream: StreamId) -> Decision
+    ensures { λ r. ⌜ r ≡ failing transaction fault stream ⌝ }
 {
     replied(
         Reply::Failed {
@@ -106,107 +90,119 @@ fn fail(transaction: u64, fault: CommandFault, stream: StreamId, session: Sessio
             stream,
         },
         empty_name(),
-        session,
+        no_change(),
     )
 }
 
 // The fault of an argument, which counts only behind a connection.
-fn connected_fault(session: Session, unconnected: CommandFault, fault: CommandFault) -> CommandFault
-    ensures { λ r. ⌜ r ≡ connectedFault session unconnected fault ⌝ }
+fn connected_fault(desk: Desk, unconnected: CommandFault, fault: CommandFault) -> CommandFault
+    ensures { λ r. ⌜ r ≡ connectedFault desk unconnected fault ⌝ }
 {
-    if is_connected(session) {
+    if desk.connected {
         return fault;
     }
     unconnected
 }
 
+// A publish or a play whose arguments are good: its request and its event, if they may be.
+fn ask(
+    desk: Desk,
+    stream: StreamId,
+    transaction: u64,
+    unconnected: CommandFault,
+    fits: bool,
+    event: Event,
+    key: Name,
+    request: Request,
+) -> Decision
+    ensures { λ r. ⌜ r ≡ asking desk stream transaction unconnected fits (raising event (desk .app) key noMetadata (filingOf request)) ⌝ }
+{
+    if !desk.connected {
+        return fail(transaction, unconnected, stream);
+    }
+    match request_room(desk, fits) {
+        Room::Closed(outcome) => refused(outcome),
+        Room::Open => {
+            let change = of_request(Effect::RequestFiled, request);
+            let app = desk.app;
+            raised(event, app, key, no_metadata(), change)
+        }
+    }
+}
+
 fn publish_good(
-    session: Session,
+    desk: Desk,
     stream: StreamId,
     transaction: u64,
     mode: PublishMode,
     fits: bool,
     key: Name,
 ) -> Decision
-    ensures { λ r. ⌜ r ≡ asking session stream transaction PublishUnconnected fits (raising (PublishStreamRequested (nextRequest session) mode) (session .app) key noMetadata (withRequest session (publishRequest session stream mode key))) ⌝ }
+    ensures { λ r. ⌜ r ≡ asking desk stream transaction PublishUnconnected fits (raising (PublishStreamRequested (nextRequest desk) mode) (desk .app) key noMetadata (filingOf (publishRequest desk stream mode key))) ⌝ }
 {
-    if !is_connected(session) {
-        return fail(
-            transaction,
-            CommandFault::PublishUnconnected,
-            stream,
-            session,
-        );
-    }
-    match request_room(session, fits) {
-        Room::Closed(outcome) => refused(outcome, session),
-        Room::Open => {
-            let id = RequestId(session.next_request);
-            let request = Request {
-                id,
-                kind: RequestKind::Publish,
-                stream,
-                mode,
-                transaction: 0,
-                name: key,
-            };
-            let next = with_request(session, request);
-            let app = session.app;
-            raised(
-                Event::PublishStreamRequested { request: id, mode },
-                app,
-                key,
-                no_metadata(),
-                next,
-            )
-        }
-    }
+    let id = RequestId(desk.next_request);
+    let request = Request {
+        id,
+        kind: RequestKind::Publish,
+        stream,
+        mode,
+        transaction: 0,
+        name: key,
+    };
+    ask(
+        desk,
+        stream,
+        transaction,
+        CommandFault::PublishUnconnected,
+        fits,
+        Event::PublishStreamRequested { request: id, mode },
+        key,
+        request,
+    )
 }
 
 pub fn publish(
-    session: Session,
+    desk: Desk,
     stream: StreamId,
     transaction: u64,
     arguments: PublishArguments,
     fits: bool,
     key: Name,
 ) -> Decision
-    ensures { λ r. ⌜ r ≡ publishDecision session stream transaction arguments fits key ⌝ }
+    ensures { λ r. ⌜ r ≡ publishDecision desk stream transaction arguments fits key ⌝ }
 {
     match arguments {
-        PublishArguments::TooFew => fail(transaction, CommandFault::PublishFew, stream, session),
+        PublishArguments::TooFew => fail(transaction, CommandFault::PublishFew, stream),
         PublishArguments::KeyNoString => {
             let fault = connected_fault(
-                session,
+                desk,
                 CommandFault::PublishUnconnected,
                 CommandFault::PublishFew,
             );
-            fail(transaction, fault, stream, session)
+            fail(transaction, fault, stream)
         }
         PublishArguments::ModeNoString => {
             let fault = connected_fault(
-                session,
+                desk,
                 CommandFault::PublishUnconnected,
                 CommandFault::PublishFew,
             );
-            fail(transaction, fault, stream, session)
+            fail(transaction, fault, stream)
         }
         PublishArguments::ModeUnknown => {
             let fault = connected_fault(
-                session,
+                desk,
                 CommandFault::PublishUnconnected,
                 CommandFault::PublishUnknownMode,
             );
-            fail(transaction, fault, stream, session)
+            fail(transaction, fault, stream)
         }
-        PublishArguments::Good(mode) => {
-            publish_good(session, stream, transaction, mode, fits, key)
-        }
+        PublishArguments::Good(mode) => { publish_good(desk, stream, transaction, mode, fits, key) }
     }
 }
 
 fn play_good(
-    session: Session,
+    desk: Desk,
     stream: StreamId,
     transaction: u64,
     start: PlayStartValue,
@@ -215,75 +211,55 @@ fn play_good(
     fits: bool,
     key: Name,
 ) -> Decision
-    ensures { λ r. ⌜ r ≡ asking session stream transaction PlayUnconnected fits (raising (PlayStreamRequested (nextRequest session) start duration reset stream) (session .app) key noMetadata (withRequest session (playRequest session stream key))) ⌝ }
+    ensures { λ r. ⌜ r ≡ asking desk stream transaction PlayUnconnected fits (raising (PlayStreamRequested (nextRequest desk) start duration reset stream) (desk .app) key noMetadata (filingOf (playRequest desk stream key))) ⌝ }
 {
-    if !is_connected(session) {
-        return fail(transaction, CommandFault::PlayUnconnected, stream, session);
-    }
-    match request_room(session, fits) {
-        Room::Closed(outcome) => refused(outcome, session),
-        Room::Open => {
-            let id = RequestId(session.next_request);
-            let request = Request {
-                id,
-                kind: RequestKind::Play,
-                stream,
-                mode: PublishMode::Live,
-                transaction: 0,
-                name: key,
-            };
-            let next = with_request(session, request);
-            let app = session.app;
-            raised(
-                Event::PlayStreamRequested {
-                    request: id,
-                    start,
-                    duration,
-                    reset,
-                    stream,
-                },
-                app,
-                key,
-                no_metadata(),
-                next,
-            )
-        }
-    }
+    let id = RequestId(desk.next_request);
+    let request = Request {
+        id,
+        kind: RequestKind::Play,
+        stream,
+        mode: PublishMode::Live,
+        transaction: 0,
+        name: key,
+    };
+    ask(
+        desk,
+        stream,
+        transaction,
+        CommandFault::PlayUnconnected,
+        fits,
+        Event::PlayStreamRequested {
+            request: id,
+            start,
+            duration,
+            reset,
+            stream,
+        },
+        key,
+        request,
+    )
 }
 
 pub fn play(
-    session: Session,
+    desk: Desk,
     stream: StreamId,
     transaction: u64,
     arguments: PlayArguments,
     fits: bool,
     key: Name,
 ) -> Decision
-    ensures { λ r. ⌜ r ≡ playDecision session stream transaction arguments fits key ⌝ }
+    ensures { λ r. ⌜ r ≡ playDecision desk stream transaction arguments fits key ⌝ }
 {
     match arguments {
-        PlayArguments::TooFew => fail(transaction, CommandFault::PlayFew, stream, session),
+        PlayArguments::TooFew => fail(transaction, CommandFault::PlayFew, stream),
         PlayArguments::KeyNoString => {
-            let fault = connected_fault(
-                session,
-                CommandFault::PlayUnconnected,
-                CommandFault::PlayFew,
-            );
-            fail(transaction, fault, stream, session)
+            let fault = connected_fault(desk, CommandFault::PlayUnconnected, CommandFault::PlayFew);
+            fail(transaction, fault, stream)
         }
         PlayArguments::Good {
             start,
             duration,
             reset,
-        } => play_good(
-            session,
-            stream,
-            transaction,
-            start,
-            duration,
-            reset,
-            fits,
-            key,
-        ),
+        } => play_good(desk, stream, transaction, start, duration, reset, fits, key),
     }
 }

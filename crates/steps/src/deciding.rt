@@ -5,10 +5,11 @@ use crate::commands::publish;
 use metadata::StreamMetadata;
 use metadata::no_metadata;
 use session::Decision;
+use session::Desk;
 use session::Event;
 use session::Reply;
-use session::Session;
-use session::quiet;
+use session::no_change;
+use session::nothing_done;
 use session::raised;
 use session::refused;
 use session::replied;
@@ -22,71 +23,100 @@ use text::empty_name;
 use wishes::Want;
 use wishes::Wish;
 ghost use mathlib.Core.Path.{_≡_};
+ghost use Rattle.session.specs.Changes.{noChange};
 ghost use Rattle.session.specs.Decisions.{raising, replying};
-ghost use Rattle.steps.specs.Deciding.{decide as decideWish, decideWant};
+ghost use Rattle.steps.specs.Deciding.{decide as decideWish, decideWant, subjectOf};
 ghost use Rattle.metadata.specs.Metadata.{noMetadata};
 ghost use Rattle.text.specs.Names.{emptyName};
 ghost use Rattle.session.specs.declared.decision.Event.the-variants.{PingResponseReceived};
 ghost use Rattle.session.specs.declared.decision.Reply.the-variants.{PingResponse as Pong};
 
-fn pong(x: u32, session: Session) -> Decision
-    ensures { λ r. ⌜ r ≡ replying (Pong x) emptyName session ⌝ }
+// The stream in question: the argument's for a close or a delete, the message's else.
+pub fn subject(want: Want, stream: StreamId) -> StreamId
+    ensures { λ r. ⌜ r ≡ subjectOf want stream ⌝ }
 {
-    replied(Reply::PingResponse(x), empty_name(), session)
+    match want {
+        Want::Nothing => stream,
+        Want::Refused(_) => stream,
+        Want::Connect {
+            transaction: _,
+            encoding: _,
+        } => stream,
+        Want::CreateStream { transaction: _ } => stream,
+        Want::CloseStream(id) => id,
+        Want::DeleteStream(id) => id,
+        Want::Publish {
+            transaction: _,
+            arguments: _,
+        } => stream,
+        Want::Play {
+            transaction: _,
+            arguments: _,
+        } => stream,
+        Want::Metadata => stream,
+        Want::PingRequest(_) => stream,
+        Want::PingResponse(_) => stream,
+    }
 }
 
-fn pong_received(x: u32, session: Session) -> Decision
-    ensures { λ r. ⌜ r ≡ raising (PingResponseReceived x) emptyName emptyName noMetadata session ⌝ }
+fn pong(x: u32) -> Decision
+    ensures { λ r. ⌜ r ≡ replying (Pong x) emptyName noChange ⌝ }
+{
+    replied(Reply::PingResponse(x), empty_name(), no_change())
+}
+
+fn pong_received(x: u32) -> Decision
+    ensures { λ r. ⌜ r ≡ raising (PingResponseReceived x) emptyName emptyName noMetadata noChange ⌝ }
 {
     raised(
         Event::PingResponseReceived { timestamp: x },
         empty_name(),
         empty_name(),
         no_metadata(),
-        session,
+        no_change(),
     )
 }
 
 fn decide_want(
     want: Want,
-    session: Session,
+    desk: Desk,
     stream: StreamId,
     fits: bool,
     name: Name,
     m: StreamMetadata,
 ) -> Decision
-    ensures { λ r. ⌜ r ≡ decideWant want session stream fits name m ⌝ }
+    ensures { λ r. ⌜ r ≡ decideWant want desk stream fits name m ⌝ }
 {
     match want {
-        Want::Nothing => quiet(session),
-        Want::Refused(outcome) => refused(outcome, session),
+        Want::Nothing => nothing_done(),
+        Want::Refused(outcome) => refused(outcome),
         Want::Connect {
             transaction,
             encoding,
-        } => connect(session, transaction, encoding, fits, name),
-        Want::CreateStream { transaction } => create_stream(session, transaction),
-        Want::CloseStream(id) => close_stream(session, id),
-        Want::DeleteStream(id) => delete_stream(session, id),
+        } => connect(desk, transaction, encoding, fits, name),
+        Want::CreateStream { transaction } => create_stream(desk, transaction),
+        Want::CloseStream(_) => close_stream(desk),
+        Want::DeleteStream(_) => delete_stream(desk),
         Want::Publish {
             transaction,
             arguments,
-        } => publish(session, stream, transaction, arguments, fits, name),
+        } => publish(desk, stream, transaction, arguments, fits, name),
         Want::Play {
             transaction,
             arguments,
-        } => play(session, stream, transaction, arguments, fits, name),
-        Want::Metadata => change_metadata(session, stream, fits, m),
-        Want::PingRequest(x) => pong(x, session),
-        Want::PingResponse(x) => pong_received(x, session),
+        } => play(desk, stream, transaction, arguments, fits, name),
+        Want::Metadata => change_metadata(desk, fits, m),
+        Want::PingRequest(x) => pong(x),
+        Want::PingResponse(x) => pong_received(x),
     }
 }
 
-// The wish of a message that came on `stream`.
-pub fn decide(session: Session, stream: StreamId, wish: Wish) -> Decision
-    ensures { λ r. ⌜ r ≡ decideWish session stream wish ⌝ }
+// The wish of a message that came on `stream`; the desk has the stream in question.
+pub fn decide(desk: Desk, stream: StreamId, wish: Wish) -> Decision
+    ensures { λ r. ⌜ r ≡ decideWish desk stream wish ⌝ }
 {
     let want = wish.want;
     let name = wish.name;
     let m = wish.metadata;
-    decide_want(want, session, stream, wish.fits, name, m)
+    decide_want(want, desk, stream, wish.fits, name, m)
 }

@@ -1,5 +1,4 @@
-// The second room, messages: what a session makes of a wish. Tables, names and numbers in, a decision with the next
-// session out.
+// The second room, messages: what a session makes of a wish. A desk and a wish in, a decision out.
 mod commands;
 mod deciding;
 
@@ -8,3 +7,4 @@ pub use commands::connect;
 pub use commands::play;
 pub use commands::publish;
 pub use deciding::decide;
+pub use deciding::subject;

@@ -1,5 +1,4 @@
 use mathlib.Core.Path.{ap, _∙_}
-use Rattle.text.specs.declared.names.Name.{Name}
 use Rattle.session.specs.Decisions.{replying}
 use Rattle.session.specs.declared.decision.Reply.the-variants.{PingResponse}
 use borrow.Author.Needs.{needs}
@@ -10,4 +9,5 @@ pub pong-spec : {M : Type 1} → statement M
 pong-spec = tie.close (tie.spec
     (λ c κs. search needs)
     (λ c κs. search needs)
-    (λ c. let a = c .before .before .args in c .replied .ensures ∙ ap (λ (n : Name). replying (PingResponse (a .x)) n (a .session)) (c .before .empty-name .ensures)))
+    (λ c κs. search needs)
+    (λ c. let a = c .before .before .before .args in c .replied .ensures ∙ (λ i. replying (PingResponse (a .x)) (c .before .before .empty-name .ensures i) (c .before .no-change .ensures i))))
