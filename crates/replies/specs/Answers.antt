@@ -22,9 +22,12 @@ refusal outcome s = record { outcome = outcome; event = NoEvent; app = emptyName
 abbrev pub idle : Session → ℕ → Answer
 idle s n = record { outcome = Done; event = NoEvent; app = emptyName; key = emptyName; metadata = noMetadata; count = n; session = s }
 
--- the session after what was decided
+abbrev pub answerWith : Session → Decision → ℕ → Answer
+answerWith next d n = record { outcome = d .outcome; event = d .event; app = d .app; key = d .key; metadata = d .metadata; count = n; session = next }
+
+-- the session is the one after what was decided
 abbrev pub answerOf : Session → Decision → ℕ → Answer
-answerOf s d n = record { outcome = d .outcome; event = d .event; app = d .app; key = d .key; metadata = d .metadata; count = n; session = applied s (d .change) }
+answerOf s d n = answerWith (applied s (d .change)) d n
 
 -- 12 stands between the decision and its records: "Removing a request before the out buffer is known to suffice" can't happen
 abbrev pub closed : Session → Decision → Sent → Answer

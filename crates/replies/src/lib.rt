@@ -3,8 +3,8 @@ mod answer;
 mod replies;
 
 pub use answer::Answer;
-pub use answer::answer_of;
-pub use answer::close;
+pub use answer::idle_answer;
 pub use answer::refuse;
+pub use replies::are_short;
 pub use replies::finish_call;
-pub use replies::finish_reject;
+pub use replies::write_reply;

@@ -10,23 +10,20 @@ use answers::play_accepted;
 use answers::play_finished;
 use answers::publish_accepted;
 use answers::stream_created;
-use decisions::reject;
 use record::time_of;
 use session::CommandFault;
 use session::Decision;
 use session::Reply;
 use session::Session;
 use text::Name;
-use text::RequestId;
 use text::StreamId;
 ghost use mathlib.Core.Path.{_≡_};
 ghost use mathlib.Core.List.{[]};
-ghost use Prim.Native.Nat.{_≤_};
-ghost use lib.ListN.{length};
+ghost use Rattle.numbers.specs.Choose.{pick};
 ghost use Rattle.answers.specs.Sending.{sent};
-ghost use Rattle.decisions.specs.Answers.{rejectRequest};
-ghost use Rattle.replies.specs.Finishing.{finishing, short};
-ghost use Rattle.replies.specs.Replies.{faultRecord, replyRecords};
+ghost use Rattle.record.specs.Records.{errorRecord};
+ghost use Rattle.replies.specs.Finishing.{finishing};
+ghost use Rattle.replies.specs.Replies.{faultRecord, replyRecords, short};
 
 // An answer without records always fits.
 fn write_nothing(out: &mut [u8]) -> Sent
@@ -89,19 +86,45 @@ fn write_fault(
     }
 }
 
-fn write_reply(
+// Whether neither is over 256 bytes.
+pub fn are_short(code: &[u8], description: &[u8]) -> bool
+    ensures { λ r. ⌜ r ≡ short (now (code .entry)) (now (description .entry)) ⌝ }
+{
+    if 256 < code.len() {
+        return false;
+    }
+    description.len() <= 256
+}
+
+// The error record of a reject. Texts that are not short were refused before.
+fn write_rejection(
+    out: &mut [u8],
+    transaction: u64,
+    code: &[u8],
+    description: &[u8],
+    time: u32,
+    stream: StreamId,
+) -> Sent
+    ensures { λ r. ⌜ (r, now (out .exit)) ≡ sent (pick (short (now (code .entry)) (now (description .entry))) (errorRecord transaction (now (code .entry)) (now (description .entry)) time (stream .0)) []) (now (out .entry)) ⌝ }
+{
+    if are_short(code, description) {
+        return error_record(out, transaction, code, description, time, stream);
+    }
+    write_nothing(out)
+}
+
+pub fn write_reply(
     out: &mut [u8],
     reply: Reply,
     name: Name,
-    next: Session,
+    version: Name,
+    encoding: u64,
     code: &[u8],
     description: &[u8],
     time: u32,
 ) -> Sent
-    requires { ⌜ (length (now code) ≤ 256) × (length (now description) ≤ 256) ⌝ }
-    ensures { λ r. ⌜ (r, now (out .exit)) ≡ sent (replyRecords reply name next (now (code .entry)) (now (description .entry)) time) (now (out .entry)) ⌝ }
+    ensures { λ r. ⌜ (r, now (out .exit)) ≡ sent (replyRecords reply name version encoding (now (code .entry)) (now (description .entry)) time) (now (out .entry)) ⌝ }
 {
-    let version = next.version;
     match reply {
         Reply::Nothing => write_nothing(out),
         Reply::StreamCreated {
@@ -119,7 +142,7 @@ fn write_reply(
             transaction,
             version,
             name,
-            next.encoding,
+            encoding,
             time,
         ),
         Reply::PublishAccepted(stream) => publish_accepted(out, name, time, stream),
@@ -128,12 +151,12 @@ fn write_reply(
         Reply::Rejected {
             transaction,
             stream,
-        } => error_record(out, transaction, code, description, time, stream),
+        } => write_rejection(out, transaction, code, description, time, stream),
     }
 }
 
-// The records of a decision, and the answer.
-fn finish_with(
+// The records of a decision, and the answer; the texts are those of a reject.
+pub fn finish_call(
     session: Session,
     decision: Decision,
     code: &[u8],
@@ -141,48 +164,21 @@ fn finish_with(
     clock: u64,
     out: &mut [u8],
 ) -> Answer
-    requires { ⌜ (length (now code) ≤ 256) × (length (now description) ≤ 256) ⌝ }
     ensures { λ r. ⌜ (r, now (out .exit)) ≡ finishing session decision (now (code .entry)) (now (description .entry)) clock (now (out .entry)) ⌝ }
 {
     let time = time_of(session.start, clock);
     let reply = decision.reply;
     let name = decision.name;
-    let next = decision.session;
-    let sent = write_reply(out, reply, name, next, code, description, time);
+    let version = session.version;
+    let sent = write_reply(
+        out,
+        reply,
+        name,
+        version,
+        session.encoding,
+        code,
+        description,
+        time,
+    );
     close(session, decision, sent)
-}
-
-// The records of a decision that has no texts of its own.
-pub fn finish_call(session: Session, decision: Decision, clock: u64, out: &mut [u8]) -> Answer
-    ensures { λ r. ⌜ (r, now (out .exit)) ≡ finishing session decision [] [] clock (now (out .entry)) ⌝ }
-{
-    finish_with(session, decision, b"", b"", clock, out)
-}
-
-// Whether neither is over 256 bytes.
-fn are_short(code: &[u8], description: &[u8]) -> bool
-    ensures { λ r. ⌜ r ≡ short (now (code .entry)) (now (description .entry)) ⌝ }
-{
-    if 256 < code.len() {
-        return false;
-    }
-    description.len() <= 256
-}
-
-// A reject, with the application's code and description; one that is refused writes neither.
-pub fn finish_reject(
-    session: Session,
-    id: RequestId,
-    code: &[u8],
-    description: &[u8],
-    clock: u64,
-    out: &mut [u8],
-) -> Answer
-    ensures { λ r. ⌜ (r, now (out .exit)) ≡ finishing session (rejectRequest session id (short (now (code .entry)) (now (description .entry)))) (now (code .entry)) (now (description .entry)) clock (now (out .entry)) ⌝ }
-{
-    if are_short(code, description) {
-        let decision = reject(session, id, true);
-        return finish_with(session, decision, code, description, clock, out);
-    }
-    finish_call(session, reject(session, id, false), clock, out)
 }

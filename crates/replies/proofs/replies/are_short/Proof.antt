@@ -1,5 +1,5 @@
 use native.Mathlib.Omega.{arith}
-use Rattle.replies.proofs.RejectLaws.{code-long, code-short}
+use Rattle.replies.proofs.RepliesLaws.{code-long, code-short}
 use Rattle.replies.proofs.replies.are_short.Statement.{statement}
 use Rattle.replies.proofs.replies.are_short.Tie as tie
 

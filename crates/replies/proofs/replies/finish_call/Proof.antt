@@ -1,11 +1,10 @@
 use Rattle.replies.proofs.RepliesLaws.{finish-is}
 use borrow.Author.Needs.{needs}
-use Rattle.replies.proofs.replies.finish_with.Statement.{statement}
-use Rattle.replies.proofs.replies.finish_with.Tie as tie
+use Rattle.replies.proofs.replies.finish_call.Statement.{statement}
+use Rattle.replies.proofs.replies.finish_call.Tie as tie
 
-pub finish-with-spec : {M : Type 1} → statement M
-finish-with-spec =
-    tie.close (tie.spec
+pub finish-call-spec : {M : Type 1} → statement M
+finish-call-spec = tie.close (tie.spec
     (λ c κs. search needs)
     (λ c κs. search needs)
     (λ c κs. search needs)
