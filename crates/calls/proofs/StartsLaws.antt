@@ -13,14 +13,12 @@ use Rattle.text.specs.declared.names.NameRead.{NameRead}
 use Rattle.record.specs.Records.{startRecords}
 use Rattle.answers.specs.Sending.{sent}
 use Rattle.answers.specs.declared.sent.Sent.{Sent}
-use Rattle.wishes.specs.declared.outcome.Outcome.the-variants.{BadConfig}
-use Rattle.session.specs.Decisions.{quietly}
+use Rattle.wishes.specs.declared.outcome.Outcome.the-variants.{BadConfig, NoRoom}
 use Rattle.session.specs.State.{freshSession}
-use Rattle.session.specs.declared.decision.Decision.{Decision}
 use Rattle.session.specs.declared.session.Session.{Session}
-use Rattle.replies.specs.Answers.{answered, closed, refusal}
+use Rattle.replies.specs.Answers.{idle, refusal}
 use Rattle.replies.specs.declared.answer.Answer.{Answer}
-use Rattle.calls.specs.Calls.{badConfig, blankSession, starting}
+use Rattle.calls.specs.Calls.{badConfig, blankSession, opened, starting}
 
 pub no-chunk : (chunk : ℕ) (version : List ℕ) → chunk ≡ 0 → true ≡ badConfig chunk version
 no-chunk chunk version h = simp (eq-eqb chunk 0 h)
@@ -42,18 +40,23 @@ good-version : (chunk : ℕ) (version : List ℕ) → badConfig chunk version �
 unfolding nameRead
 good-version chunk version e = ap (λ (t : Bool). pick {X = NameRead} t (record { fits = false; name = emptyName }) (record { fits = true; name = nameOf version }) .name) (neither (ltb 2147483647 chunk) _ (neither (eqb chunk 0) _ e))
 
-module _ (chunk window bandwidth : ℕ) (finish : Bool) (version : List ℕ) (clock : ℕ) (out : List ℕ) (b : Bool) (e : b ≡ badConfig chunk version) (blank : Session) (z : blank ≡ blankSession) where
-  pub start-bad : (a : Answer) → a ≡ refusal BadConfig blank → b ≡ true → _≡_ {A = Answer × List ℕ} (a, out) (starting chunk window bandwidth finish version clock out)
-  unfolding starting
-  start-bad a k q = ap (λ (y : Answer). (y, out)) (k ∙ ap (refusal BadConfig) z) ∙ simp (sym e ∙ q)
+-- ---- whether the records fit
+module _ (clock : ℕ) (version : Name) (r : Sent) (a : Answer) (t : Session) where
+  pub opened-fits : a ≡ idle t (r .count) → t ≡ freshSession clock version → r .fits ≡ true → a ≡ opened clock version r
+  opened-fits k e q = k ∙ ap (λ (x : Session). idle x (r .count)) e ∙ ap (λ (b : Bool). pick b (idle (freshSession clock version) (r .count)) (refusal NoRoom blankSession)) (sym q)
 
-  pub start-good : (r : Sent) (after : List ℕ) (a : Answer) (d : Decision) (t : Session) (v : Name) (n : NameRead) → _≡_ {A = Sent × List ℕ} (r, after) (sent (startRecords chunk window bandwidth finish) out) → a ≡ closed blank d r → d ≡ quietly t → t ≡ freshSession clock v → v ≡ n .name → n ≡ nameRead version → b ≡ false
+  pub opened-not : a ≡ refusal NoRoom t → t ≡ blankSession → r .fits ≡ false → a ≡ opened clock version r
+  opened-not k e q = k ∙ ap (refusal NoRoom) e ∙ ap (λ (b : Bool). pick b (idle (freshSession clock version) (r .count)) (refusal NoRoom blankSession)) (sym q)
+
+module _ (chunk window bandwidth : ℕ) (finish : Bool) (version : List ℕ) (clock : ℕ) (out : List ℕ) (b : Bool) (e : b ≡ badConfig chunk version) (a : Answer) where
+  pub start-bad : (blank : Session) → a ≡ refusal BadConfig blank → blank ≡ blankSession → b ≡ true → _≡_ {A = Answer × List ℕ} (a, out) (starting chunk window bandwidth finish version clock out)
+  unfolding starting
+  start-bad blank k z q = ap (λ (y : Answer). (y, out)) (k ∙ ap (refusal BadConfig) z) ∙ simp (sym e ∙ q)
+
+  pub start-good : (r : Sent) (after : List ℕ) (n : NameRead) → _≡_ {A = Sent × List ℕ} (r, after) (sent (startRecords chunk window bandwidth finish) out) → a ≡ opened clock (n .name) r → n ≡ nameRead version → b ≡ false
       → _≡_ {A = Answer × List ℕ} (a, after) (starting chunk window bandwidth finish version clock out)
-  unfolding starting answered
-  start-good r after a d t v n h k f g w y q =
-      ap (λ (x : Answer). (x, after)) k
-      ∙ ap (λ (p : Sent × List ℕ). (closed blank d (p .0), p .1)) h
-      ∙ (λ i. (closed (z i) (f i) (sent (startRecords chunk window bandwidth finish) out .0), sent (startRecords chunk window bandwidth finish) out .1))
-      ∙ ap (λ (x : Session). (closed blankSession (quietly x) (sent (startRecords chunk window bandwidth finish) out .0), sent (startRecords chunk window bandwidth finish) out .1))
-      (g ∙ ap (freshSession clock) (w ∙ ap (λ (x : NameRead). x .name) y ∙ good-version chunk version (sym e ∙ q)))
+  unfolding starting
+  start-good r after n h k y q =
+      ap (λ (x : Answer). (x, after)) (k ∙ ap (λ (x : Name). opened clock x r) (ap (λ (x : NameRead). x .name) y ∙ good-version chunk version (sym e ∙ q)))
+      ∙ ap (λ (p : Sent × List ℕ). (opened clock (nameOf version) (p .0), p .1)) h
       ∙ simp (sym e ∙ q)

@@ -8,6 +8,7 @@ use Rattle.numbers.specs.Choose.{pick}
 use Rattle.text.specs.Names.{emptyName, nameOf}
 use Rattle.text.specs.declared.ids.RequestId.{RequestId}
 use Rattle.text.specs.declared.ids.StreamId.{StreamId}
+use Rattle.text.specs.declared.names.Name.{Name}
 use Rattle.record.specs.Records.{startRecords}
 use Rattle.answers.specs.Sending.{sent}
 use Rattle.answers.specs.declared.sent.Sent.{Sent}
@@ -40,10 +41,10 @@ badConfig chunk version = eqb chunk 0 || (ltb 2147483647 chunk || ltb 128 (lengt
 abbrev pub blankSession : Session
 blankSession = freshSession 0 emptyName
 
-abbrev pub opened : ℕ → List ℕ → Sent → Answer
-opened clock version r = pick (r .fits) (idle (freshSession clock (nameOf version)) (r .count)) (refusal NoRoom blankSession)
+abbrev pub opened : ℕ → Name → Sent → Answer
+opened clock version r = pick (r .fits) (idle (freshSession clock version) (r .count)) (refusal NoRoom blankSession)
 
 unfoldable pub starting : ℕ → ℕ → ℕ → Bool → List ℕ → ℕ → List ℕ → Answer × List ℕ
 starting chunk window bandwidth finish version clock out =
     pick (badConfig chunk version) (refusal BadConfig blankSession, out)
-    (opened clock version (sent (startRecords chunk window bandwidth finish) out .0), sent (startRecords chunk window bandwidth finish) out .1)
+    (opened clock (nameOf version) (sent (startRecords chunk window bandwidth finish) out .0), sent (startRecords chunk window bandwidth finish) out .1)

@@ -1,12 +1,15 @@
 // The application's decisions.
 use decisions::accept;
 use decisions::finish;
+use decisions::reject;
 use replies::Answer;
+use replies::are_short;
 use replies::finish_call;
-use replies::finish_reject;
 use replies::refuse;
 use session::Session;
+use session::request_at;
 use session::session_sound;
+use session::stream_at;
 use text::RequestId;
 use text::StreamId;
 use wishes::Outcome;
@@ -19,8 +22,11 @@ pub fn accept_request(session: Session, id: RequestId, clock: u64, out: &mut [u8
     if !session_sound(session) {
         return refuse(Outcome::BadSession, session);
     }
-    let decision = accept(session, id);
-    finish_call(session, decision, clock, out)
+    let waiting = request_at(session, id);
+    let request = waiting.request;
+    let seen = stream_at(session, request.stream);
+    let decision = accept(waiting, seen.found);
+    finish_call(session, decision, b"", b"", clock, out)
 }
 
 pub fn reject_request(
@@ -36,7 +42,9 @@ pub fn reject_request(
     if !session_sound(session) {
         return refuse(Outcome::BadSession, session);
     }
-    finish_reject(session, id, code, description, clock, out)
+    let waiting = request_at(session, id);
+    let decision = reject(waiting, are_short(code, description));
+    finish_call(session, decision, code, description, clock, out)
 }
 
 pub fn finish_playing(session: Session, id: StreamId, clock: u64, out: &mut [u8]) -> Answer
@@ -45,6 +53,7 @@ pub fn finish_playing(session: Session, id: StreamId, clock: u64, out: &mut [u8]
     if !session_sound(session) {
         return refuse(Outcome::BadSession, session);
     }
-    let decision = finish(session, id);
-    finish_call(session, decision, clock, out)
+    let seen = stream_at(session, id);
+    let decision = finish(seen, id);
+    finish_call(session, decision, b"", b"", clock, out)
 }

@@ -12,16 +12,17 @@ use Rattle.wishes.specs.Control.{controlWish}
 use Rattle.wishes.specs.DataFrame.{dataWish}
 use Rattle.wishes.specs.declared.outcome.Outcome.the-variants.{BadSession, Done}
 use Rattle.wishes.specs.declared.wish.Wish.{Wish}
-use Rattle.session.specs.Decisions.{quietly}
+use Rattle.session.specs.Desk.{deskOf}
 use Rattle.session.specs.State.{sessionSound}
 use Rattle.session.specs.declared.decision.Decision.{Decision}
 use Rattle.session.specs.declared.decision.Event.{Event}
 use Rattle.session.specs.declared.decision.Event.the-variants.{AudioDataReceived, VideoDataReceived}
+use Rattle.session.specs.declared.desk.Desk.{Desk}
 use Rattle.session.specs.declared.session.Session.{Session}
 use Rattle.streams.specs.Streams.{frameOf}
 use Rattle.streams.specs.declared.streams.Frame.{Frame}
-use Rattle.steps.specs.Deciding.{decide}
-use Rattle.replies.specs.Answers.{answerOf, refusal}
+use Rattle.steps.specs.Deciding.{decide, decided, subjectOf}
+use Rattle.replies.specs.Answers.{idle, refusal}
 use Rattle.replies.specs.Finishing.{finishing}
 use Rattle.replies.specs.declared.answer.Answer.{Answer}
 use Rattle.messages.specs.Messages.{byType, frameAnswer, guarded, handleMedia, mediaAnswer, mediaEvent, mediaRefusal, wished}
@@ -39,8 +40,10 @@ module _ (s : Session) (out : List ℕ) (c : Bool) (e : c ≡ sessionSound s) wh
   door-open p r k q = k ∙ simp (sym e ∙ q)
 
 -- ---- a wish
-pub wish-is : (s : Session) (x : StreamId) (clock : ℕ) (out : List ℕ) (w : Wish) (d : Decision) (p : Answer × List ℕ) → p ≡ finishing s d [] [] clock out → d ≡ decide s x w → p ≡ wished s x clock out w
-wish-is s x clock out w d p e q = e ∙ ap (λ (y : Decision). finishing s y [] [] clock out) q
+pub wish-is : (s : Session) (x : StreamId) (clock : ℕ) (out : List ℕ) (w : Wish) (y : StreamId) (k : Desk) (d : Decision) (p : Answer × List ℕ)
+    → p ≡ finishing s d [] [] clock out → d ≡ decide k x w → k ≡ deskOf s y → y ≡ subjectOf (w .want) x → p ≡ wished s x clock out w
+unfolding decided
+wish-is s x clock out w y k d p e f g h = e ∙ ap (λ (z : Decision). finishing s z [] [] clock out) (f ∙ ap (λ (z : Desk). decide z x w) (g ∙ ap (deskOf s) h))
 
 -- ---- by the type
 module _ (s : Session) (type : ℕ) (x : StreamId) (timestamp clock : ℕ) (body out : List ℕ) where
@@ -75,11 +78,9 @@ module _ (s : Session) (type : ℕ) (x : StreamId) (timestamp clock : ℕ) (body
     unfolding byType
     type-9 q = at-type 9 (a, out) (shows (frameOf s x (VideoDataReceived timestamp)) q)
 
-  pub type-other : (a : Answer) (d : Decision) → a ≡ answerOf d 0 → d ≡ quietly s → (type ≡ 4 → ⊥) → (type ≡ 8 → ⊥) → (type ≡ 9 → ⊥) → (type ≡ 18 → ⊥) → (type ≡ 20 → ⊥)
-      → _≡_ {A = Answer × List ℕ} (a, out) (byType s type x timestamp clock body out)
+  pub type-other : (a : Answer) → a ≡ idle s 0 → (type ≡ 4 → ⊥) → (type ≡ 8 → ⊥) → (type ≡ 9 → ⊥) → (type ≡ 18 → ⊥) → (type ≡ 20 → ⊥) → _≡_ {A = Answer × List ℕ} (a, out) (byType s type x timestamp clock body out)
   unfolding byType
-  type-other a d e q n4 n8 n9 n18 n20 =
-      ap (λ (y : Answer). (y, out)) (e ∙ ap (λ (y : Decision). answerOf y 0) q) ∙ simp (ne-eqb type 4 n4, ne-eqb type 8 n8, ne-eqb type 9 n9, ne-eqb type 18 n18, ne-eqb type 20 n20)
+  type-other a e n4 n8 n9 n18 n20 = ap (λ (y : Answer). (y, out)) e ∙ simp (ne-eqb type 4 n4, ne-eqb type 8 n8, ne-eqb type 9 n9, ne-eqb type 18 n18, ne-eqb type 20 n20)
 
 -- ---- audio and video alone
 module _ (s : Session) (kind : MediaKind) (x : StreamId) (timestamp : ℕ) (c : Bool) (e : c ≡ sessionSound s) where

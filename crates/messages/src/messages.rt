@@ -1,14 +1,15 @@
 // Messages that come in.
 use metadata::no_metadata;
 use replies::Answer;
-use replies::answer_of;
 use replies::finish_call;
+use replies::idle_answer;
 use replies::refuse;
 use session::Event;
 use session::Session;
-use session::quiet;
+use session::desk_of;
 use session::session_sound;
 use steps::decide;
+use steps::subject;
 use streams::Frame;
 use streams::frame_of;
 use text::Name;
@@ -38,8 +39,10 @@ pub struct MediaAnswer {
 fn by_wish(session: Session, stream: StreamId, clock: u64, out: &mut [u8], wish: Wish) -> Answer
     ensures { λ r. ⌜ (r, now (out .exit)) ≡ wished session stream clock (now (out .entry)) wish ⌝ }
 {
-    let decision = decide(session, stream, wish);
-    finish_call(session, decision, clock, out)
+    let want = wish.want;
+    let desk = desk_of(session, subject(want, stream));
+    let decision = decide(desk, stream, wish);
+    finish_call(session, decision, b"", b"", clock, out)
 }
 
 fn frame_answer(session: Session, frame: Frame) -> Answer
@@ -84,7 +87,7 @@ fn by_type(
         ),
         18 => by_wish(session, stream, clock, out, data_wish(body)),
         20 => by_wish(session, stream, clock, out, command_wish(body)),
-        _ => answer_of(quiet(session), 0),
+        _ => idle_answer(session, 0),
     }
 }
 

@@ -18,7 +18,6 @@ by-type-spec =
     (λ c κs. search needs)
     (λ c κs. search needs)
     (λ c κs. search needs)
-    (λ c κs. search needs)
     (λ c. search needs)
     (λ c. type-4 _ _ _ _ _ _ _ _ _ (c .before .before .by-wish .ensures) (c .before .before .before .control-wish .ensures) (c .before .before .before .before .before .match .keys1))
     (λ c. type-8 _ _ _ _ _ _ _ _ _ (c .frame-answer .ensures) (c .before .frame-of .ensures) (c .before .before .match .keys2))
@@ -27,4 +26,4 @@ by-type-spec =
     (λ c. type-18 _ _ _ _ _ _ _ _ _ (c .before .before .by-wish2 .ensures) (c .before .before .before .data-wish .ensures) (c .before .before .before .before .before .match .keys4))
     (λ c. search needs)
     (λ c. type-20 _ _ _ _ _ _ _ _ _ (c .before .before .by-wish3 .ensures) (c .before .before .before .command-wish .ensures) (c .before .before .before .before .before .match .keys5))
-    (λ c. let r = c .before .before .match .rest in type-other _ _ _ _ _ _ _ _ _ (c .answer-of .ensures) (c .before .quiet .ensures) (r .0 .0 .0 .0 .1) (r .0 .0 .0 .1) (r .0 .0 .1) (r .0 .1) (r .1)))
+    (λ c. let r = c .before .match .rest in type-other _ _ _ _ _ _ _ _ (c .idle-answer .ensures) (r .0 .0 .0 .0 .1) (r .0 .0 .0 .1) (r .0 .0 .1) (r .0 .1) (r .1)))
