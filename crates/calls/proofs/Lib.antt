@@ -1,4 +1,3 @@
 pub mod StartsLaws
+pub mod ApplicationLaws
 pub mod DeterminedTheorems
-pub mod RefusalTheorems
-pub mod SoundTheorems
