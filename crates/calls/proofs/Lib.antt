@@ -1,3 +1,5 @@
 pub mod StartsLaws
 pub mod ApplicationLaws
 pub mod DeterminedTheorems
+pub mod RefusalTheorems
+pub mod SoundTheorems

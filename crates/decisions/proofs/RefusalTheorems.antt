@@ -1,9 +1,8 @@
 -- "Every refusal leaves session and out buffer unchanged and raises nothing; only 11 from an accept removes the request."
 use mathlib.Core.Path.{_≡_, refl}
 use mathlib.Core.Bool.{Bool, true, false}
-use Rattle.numbers.specs.Choose.{pick}
+use Rattle.numbers.proofs.ChooseLaws.{pick-elim}
 use Rattle.text.specs.declared.ids.StreamId.{StreamId}
-use Rattle.tables.specs.declared.requests.Request.{Request}
 use Rattle.tables.specs.declared.requests.RequestFound.{RequestFound}
 use Rattle.tables.specs.declared.requests.RequestKind.{RequestKind}
 use Rattle.tables.specs.declared.requests.RequestKind.the-variants.{Connect as ConnectKind, Publish as PublishKind, Play as PlayKind}
@@ -15,7 +14,7 @@ use Rattle.wishes.specs.declared.outcome.Action.{Action}
 use Rattle.wishes.specs.declared.outcome.Action.the-variants.{Publish as Publishes, Play as Plays}
 use Rattle.wishes.specs.declared.outcome.Outcome.the-variants.{NoSuchRequest, TextTooLong, WrongStream}
 use Rattle.session.specs.Changes.{dropping}
-use Rattle.session.specs.Decisions.{refusing, refusingWith}
+use Rattle.session.specs.Decisions.{refusingWith}
 use Rattle.session.specs.declared.decision.Decision.{Decision}
 use Rattle.session.specs.declared.decision.Reply.{Reply}
 use Rattle.session.proofs.RefusalTheorems.{Fate, done, either, kept}
@@ -35,25 +34,22 @@ pub finished-fate : (e : StreamFound) (id : StreamId) → Fate (finishPlaying e 
 unfolding finishPlaying
 finished-fate e id = either (e .found) _ _ (finishes (e .stream .state) id (e .stream)) (kept _ refl)
 
--- an accept may also be 11, and then the request is gone
-pub data AcceptFate (r : Request) (d : Decision) : Type 0 where
-  fate : Fate d → AcceptFate r d
-  gone : (action : Action) (stream : StreamId) → d ≡ refusingWith (WrongStream action stream) (dropping r) → AcceptFate r d
+-- an accept may also be 11, and then the request, which was found, is gone
+pub data AcceptFate (q : RequestFound) (d : Decision) : Type 0 where
+  fate : Fate d → AcceptFate q d
+  gone : q .found ≡ true → (action : Action) (stream : StreamId) → d ≡ refusingWith (WrongStream action stream) (dropping (q .request)) → AcceptFate q d
 
-settle : (found : Bool) (action : Action) (r : Request) (reply : Reply) (x : Stream) → AcceptFate r (settled found action r reply x)
-unfolding settled
-settle true action r reply x = fate (done refl)
-settle false action r reply x = gone action (r .stream) refl
+module _ (q : RequestFound) (h : q .found ≡ true) where
+  settle : (found : Bool) (action : Action) (reply : Reply) (x : Stream) → AcceptFate q (settled found action (q .request) reply x)
+  unfolding settled
+  settle true action reply x = fate (done refl)
+  settle false action reply x = gone h action (q .request .stream) refl
 
-grants : (k : RequestKind) (r : Request) (found : Bool) → AcceptFate r (granted k r found)
-grants ConnectKind r found = fate (done refl)
-grants PublishKind r found = settle found Publishes r _ (publishing r)
-grants PlayKind r found = settle found Plays r _ (playing r)
+  grants : (k : RequestKind) (found : Bool) → AcceptFate q (granted k (q .request) found)
+  grants ConnectKind found = fate (done refl)
+  grants PublishKind found = settle found Publishes _ (publishing (q .request))
+  grants PlayKind found = settle found Plays _ (playing (q .request))
 
-waits : (b : Bool) (r : Request) (found : Bool) → AcceptFate r (pick b (granted (r .kind) r found) (refusing NoSuchRequest))
-waits true r found = grants (r .kind) r found
-waits false r found = fate (kept NoSuchRequest refl)
-
-pub accepted-fate : (q : RequestFound) (found : Bool) → AcceptFate (q .request) (acceptRequest q found)
+pub accepted-fate : (q : RequestFound) (found : Bool) → AcceptFate q (acceptRequest q found)
 unfolding acceptRequest onWaiting
-accepted-fate q found = waits (q .found) (q .request) found
+accepted-fate q found = pick-elim (AcceptFate q) _ _ (q .found) (λ h. grants q h (q .request .kind) found) (λ h. fate (kept NoSuchRequest refl))

@@ -54,12 +54,14 @@ found-request none h = let z : _≡_ {A = ℕ} 0 1 = cc in absurd (omega arith)
 found-request (some r) h = refl
 
 module _ (s : Session) where
+  stream-number : (x : StreamId) → streamAt s x .found ≡ true → streamAt s x .stream .id .0 ≡ x .0
+  stream-number x h = found-number streamNumber streamName (x .0) (take (s .«stream_count») (s .streams)) (streamAt s x .stream) (found-stream (streamOf s (x .0)) h)
+
   pub stream-there : (x : StreamId) → streamAt s x .found ≡ true → streamOf s (streamAt s x .stream .id .0) ≡ some (streamAt s x .stream)
-  stream-there x h =
-      let f = found-stream (streamOf s (x .0)) h in
-      ap (streamOf s) (found-number streamNumber streamName (x .0) (take (s .«stream_count») (s .streams)) (streamAt s x .stream) f) ∙ f
+  stream-there x h = ap (streamOf s) (stream-number x h) ∙ found-stream (streamOf s (x .0)) h
+
+  pub request-number : (n : RequestId) → requestAt s n .found ≡ true → requestAt s n .request .id .0 ≡ n .0
+  request-number n h = found-number requestNumber requestName (n .0) (take (s .«request_count») (s .requests)) (requestAt s n .request) (found-request (requestOf s (n .0)) h)
 
   pub request-there : (n : RequestId) → requestAt s n .found ≡ true → requestOf s (requestAt s n .request .id .0) ≡ some (requestAt s n .request)
-  request-there n h =
-      let f = found-request (requestOf s (n .0)) h in
-      ap (requestOf s) (found-number requestNumber requestName (n .0) (take (s .«request_count») (s .requests)) (requestAt s n .request) f) ∙ f
+  request-there n h = ap (requestOf s) (request-number n h) ∙ found-request (requestOf s (n .0)) h
