@@ -17,7 +17,7 @@ use Rattle.answers.specs.Sending.{sent}
 use Rattle.wishes.specs.Commands.{commandWish}
 use Rattle.wishes.specs.Control.{controlWish}
 use Rattle.wishes.specs.DataFrame.{dataWish}
-use Rattle.wishes.specs.declared.outcome.Outcome.the-variants.{BadConfig, BadSession, NoRoom}
+use Rattle.wishes.specs.declared.outcome.Outcome.the-variants.{BadSession, NoRoom}
 use Rattle.wishes.specs.declared.wish.Wish.{Wish}
 use Rattle.wishes.proofs.NameTheorems.{command-short, control-short, data-short}
 use Rattle.session.specs.Changes.{applied}

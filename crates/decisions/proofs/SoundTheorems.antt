@@ -1,10 +1,9 @@
 -- Every decision of the application changes a session by what fits it.
-use mathlib.Core.Path.{_≡_, refl}
+use mathlib.Core.Path.{_≡_}
 use Prim.Native.Nat.{_≤_}
 use mathlib.Core.Bool.{Bool, true, false}
 use mathlib.Core.Option.{some}
 use lib.Dec.{lit≤}
-use Rattle.numbers.specs.Choose.{pick}
 use Rattle.numbers.proofs.ChooseLaws.{pick-elim}
 use Rattle.text.specs.declared.ids.RequestId.{RequestId}
 use Rattle.text.specs.declared.ids.StreamId.{StreamId}

@@ -1,9 +1,7 @@
 -- A session after a change, by what the code found.
 use mathlib.Core.Path.{_≡_, sym, ap, _∙_}
 use Prim.Native.Nat.{ℕ, _+_, _≤_, _<_}
-use lib.Dec.{eqb, leb}
 use borrow.Author.Tests.{eq-eqb, le-leb, lt-leb, ne-eqb}
-use Rattle.numbers.specs.Choose.{pick}
 use Rattle.tables.specs.declared.requests.Request.{Request}
 use Rattle.tables.specs.declared.streams.Stream.{Stream}
 use Rattle.session.specs.Changes.{appliedBy}

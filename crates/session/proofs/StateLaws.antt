@@ -1,6 +1,6 @@
 -- A session's tests, each from what the code found.
 use mathlib.Core.Path.{_≡_, sym, ap, _∙_}
-use Prim.Native.Nat.{ℕ, _≤_, _<_}
+use Prim.Native.Nat.{_≤_, _<_}
 use mathlib.Core.Bool.{Bool, true, false}
 use borrow.Author.Tests.{le-leb, lt-leb}
 use Rattle.tables.specs.Entries.{requestName, requestNumber, streamName, streamNumber}

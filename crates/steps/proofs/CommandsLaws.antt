@@ -9,7 +9,6 @@ use Rattle.numbers.specs.Choose.{pick}
 use Rattle.numbers.proofs.ChooseLaws.{pick-elim, pick-eq, pick-le}
 use Rattle.text.specs.declared.ids.StreamId.{StreamId}
 use Rattle.text.specs.declared.names.Name.{Name}
-use Rattle.metadata.specs.declared.metadata.StreamMetadata.{StreamMetadata}
 use Rattle.wishes.specs.declared.outcome.Outcome.{Outcome}
 use Rattle.wishes.specs.declared.outcome.Outcome.the-variants.{NameTooLong, NumbersUsedUp, RequestsFull}
 use Rattle.wishes.specs.declared.wish.PlayArguments.{PlayArguments}

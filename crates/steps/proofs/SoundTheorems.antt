@@ -25,9 +25,9 @@ use Rattle.session.specs.declared.decision.CommandFault.{CommandFault}
 use Rattle.session.specs.declared.decision.Decision.{Decision}
 use Rattle.session.specs.declared.desk.Desk.{Desk}
 use Rattle.session.specs.declared.session.Session.{Session}
-use Rattle.session.proofs.FitsLaws.{Fits, NewRequest, either, stream-there}
-use Rattle.streams.specs.Streams.{createStream, created, described, ended, onStream}
-use Rattle.steps.specs.Commands.{asking, connectRequest, filing, onRoom, play, playRequest, publish, publishRequest, requestRoom}
+use Rattle.session.proofs.FitsLaws.{Fits, either, stream-there}
+use Rattle.streams.specs.Streams.{createStream, described, ended, onStream}
+use Rattle.steps.specs.Commands.{asking, filing, onRoom, play, publish, requestRoom}
 use Rattle.steps.specs.Deciding.{decide, decideWant, decided, subjectOf}
 use Rattle.steps.specs.declared.commands.Room.{Room}
 use Rattle.steps.specs.declared.commands.Room.the-variants.{Open, Closed}

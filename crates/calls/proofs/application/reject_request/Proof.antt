@@ -1,5 +1,4 @@
 use mathlib.Core.Path.{ap, _∙_}
-use mathlib.Core.List.{[]}
 use borrow.Author.Tests.{not-false, not-true}
 use Rattle.session.specs.declared.decision.Decision.{Decision}
 use Rattle.replies.specs.Finishing.{finishing}

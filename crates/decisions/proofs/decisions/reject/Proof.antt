@@ -1,6 +1,6 @@
 use borrow.Author.Needs.{needs}
 use borrow.Author.Tests.{not-false, not-true}
-use mathlib.Core.Path.{ap, _∙_}
+use mathlib.Core.Path.{_∙_}
 use Rattle.session.specs.Decisions.{replying}
 use Rattle.decisions.proofs.AnswersLaws.{reject-long, reject-none, reject-some}
 use Rattle.decisions.proofs.decisions.reject.Statement.{statement}

@@ -1,5 +1,5 @@
 use borrow.Author.Tests.{not-false, not-true}
-use mathlib.Core.Path.{ap, _∙_}
+use mathlib.Core.Path.{_∙_}
 use Rattle.session.specs.Decisions.{raising}
 use Rattle.steps.proofs.CommandsLaws.{asking-off, asking-on, filing-closed, filing-open}
 use borrow.Author.Needs.{needs}

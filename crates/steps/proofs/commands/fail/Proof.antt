@@ -1,4 +1,4 @@
-use mathlib.Core.Path.{ap, _∙_}
+use mathlib.Core.Path.{_∙_}
 use Rattle.session.specs.Decisions.{replying}
 use Rattle.session.specs.declared.decision.Reply.the-variants.{Failed}
 use borrow.Author.Needs.{needs}
