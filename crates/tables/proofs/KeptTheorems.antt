@@ -121,12 +121,12 @@ module _ {A : Type 0} (number : A → ℕ) (name : A → Name) where
       (λ q u. let z : x ≡ e = cc in subst (λ (y : A). number y ≡ id) z q) (λ n u. found-number id xs e u) f
 
   -- ---- lengths
-  length-change : (y : A) (xs : List A) → length (change number y xs) ≡ length xs
+  pub length-change : (y : A) (xs : List A) → length (change number y xs) ≡ length xs
   unfolding change
   length-change y [] = refl
   length-change y (x ∷ xs) = pick-eq (λ (l : List A). length l ≡ length (x ∷ xs)) (y ∷ xs) (x ∷ change number y xs) (number x) (number y) (λ q. refl) (λ n. ap suc (length-change y xs))
 
-  length-remove : (id : ℕ) (xs : List A) (e : A) → look number id xs ≡ some e → suc (length (remove number id xs)) ≡ length xs
+  pub length-remove : (id : ℕ) (xs : List A) (e : A) → look number id xs ≡ some e → suc (length (remove number id xs)) ≡ length xs
   unfolding remove look
   length-remove id [] e h = let z : _≡_ {A = ℕ} 0 1 = cc in absurd (omega arith)
   length-remove id (x ∷ xs) e h =
