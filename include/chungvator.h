@@ -12,8 +12,7 @@
  *     What is only read may overlap with what is only read.
  *   - A slice is two words: a pointer, and a count of bytes. The pointer is not NULL, also where the count is 0.
  *   - Nobody else writes what is lent while the call runs. Calls on different sessions may run at the same time.
- *   - There is stack enough. As built now, a message takes up to 72 KB, an accept or a finish 47 KB, a reject 23 KB, a
- *     start 20 KB, a frame or a send 15 KB.
+ *   - There is stack enough. As built now, a call takes up to 12 KB, a start 2 KB.
  * All else is the library's business: no number and no byte that is handed in is wrong, it is answered or refused.
  *
  * The chungvator_session_.. functions at the end are those that a host calls. The others are what the library exports.
@@ -108,9 +107,8 @@ enum chungvator_type {
 };
 
 /* ---- A session: four arrays, 5,712 bytes. ----
- * Rows past a count are nobody's, and nothing reads them. A call that is done, and 11 from an accept, may write them
- * again: a number there that names nothing then becomes one that does. Rows that a start or a later call left stay as
- * they are. */
+ * Rows past a count, and their names, are nobody's: nothing reads them. They stay as they are until a new stream or a
+ * new request takes the next one. A removal moves the later rows up, and leaves what stood in the last one. */
 enum { CHUNGVATOR_PLACES = 16, CHUNGVATOR_NAME_BYTES = 128 };
 
 /* facts[..] */

@@ -186,7 +186,7 @@ impl ServerSession {
     }
 
     /// The same, to be written. Whatever is written is safe: arrays that hold no session are refused with 15. Rows past
-    /// a count are nobody's; a call may write them again.
+    /// a count are nobody's, and stay as they are until a new stream or request takes them.
     pub fn arrays_mut(&mut self) -> &mut ffi::Session {
         &mut self.arrays
     }

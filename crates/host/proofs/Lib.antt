@@ -1,2 +1,2 @@
-pub mod DoorLaws
+pub mod SendsLaws
 pub mod FramesLaws

@@ -1,83 +1,36 @@
-// Audio and video messages: no session is made of the arrays, so none is copied.
-use image::find_row;
+// Audio and video messages. The session stays as it is.
+use desks::frame_in;
 use image::image_sound;
+use parts::event_numbers;
 use parts::show_media;
-use tables::Stream;
-use tables::StreamFound;
-use tables::StreamState;
-use text::Name;
+use session::Event;
+use streams::Frame;
 use text::StreamId;
 use text::empty_name;
 ghost use mathlib.Core.Path.{_≡_};
+ghost use Rattle.text.specs.Names.{emptyName};
+ghost use Rattle.session.specs.declared.decision.Event.the-variants.{NoEvent};
 ghost use Rattle.image.specs.Image.{readableAt, sessionAt};
-ghost use Rattle.host.specs.Frames.{connectedAt, frameShown, hostedMedia, mediaOf, nothingShown, shownAs};
-
-fn connected_at(facts: &[u64; 10]) -> bool
-    ensures { λ r. ⌜ r ≡ connectedAt (now (facts .entry)) ⌝ }
-{
-    if facts[2] == 0 {
-        return false;
-    }
-    facts[3] == 1
-}
+ghost use Rattle.host.specs.Frames.{frameShown, hostedMedia, mediaOf};
 
 fn show_nothing(media: &mut [u64; 4], words: &mut [[u8; 128]; 2])
-    ensures { λ r. ⌜ (now (media .exit), now (words .exit)) ≡ nothingShown ⌝ }
+    ensures { λ r. ⌜ (now (media .exit), now (words .exit)) ≡ frameShown NoEvent emptyName emptyName ⌝ }
 {
     let empty = empty_name();
     show_media(media, words, 0, 0, empty, empty);
 }
 
-// An event only where the stream is publishing.
-fn show_stream(
-    media: &mut [u64; 4],
-    words: &mut [[u8; 128]; 2],
-    what: u64,
-    timestamp: u32,
-    app: Name,
-    stream: Stream,
-)
-    ensures { λ r. ⌜ (now (media .exit), now (words .exit)) ≡ shownAs (stream .state) what timestamp app (stream .key) ⌝ }
+fn show_frame(media: &mut [u64; 4], words: &mut [[u8; 128]; 2], frame: Frame)
+    ensures { λ r. ⌜ (now (media .exit), now (words .exit)) ≡ frameShown (frame .event) (frame .app) (frame .key) ⌝ }
 {
-    let state = stream.state;
-    let key = stream.key;
-    match state {
-        StreamState::Created => show_nothing(media, words),
-        StreamState::Publishing => show_media(media, words, what, timestamp, app, key),
-        StreamState::Playing => show_nothing(media, words),
-        StreamState::Completed => show_nothing(media, words),
-    }
+    let event = frame.event;
+    let app = frame.app;
+    let key = frame.key;
+    let e = event_numbers(event);
+    show_media(media, words, e[0], e[9], app, key);
 }
 
-fn show_frame(
-    facts: &[u64; 10],
-    streams: &[[u64; 4]; 16],
-    names: &[[u8; 128]; 34],
-    id: StreamId,
-    what: u64,
-    timestamp: u32,
-    media: &mut [u64; 4],
-    words: &mut [[u8; 128]; 2],
-)
-    ensures { λ r. ⌜ (now (media .exit), now (words .exit)) ≡ frameShown (now (facts .entry)) (now (streams .entry)) (now (names .entry)) what timestamp (id .0) ⌝ }
-{
-    if !connected_at(facts) {
-        show_nothing(media, words);
-        return;
-    }
-    let bytes = names[1];
-    let len = facts[4] as usize;
-    let app = Name { bytes, len };
-    let found = find_row(streams, names, facts[8], id);
-    if !found.found {
-        show_nothing(media, words);
-        return;
-    }
-    let stream = found.stream;
-    show_stream(media, words, what, timestamp, app, stream);
-}
-
-// An audio (kind 8) or a video (kind 9) message. The session stays as it is.
+// An audio (kind 8) or a video (kind 9) message.
 #[no_mangle]
 pub extern "C" fn chungvator_handle_media(
     facts: &[u64; 10],
@@ -98,8 +51,30 @@ pub extern "C" fn chungvator_handle_media(
     }
     let id = StreamId(stream);
     match kind {
-        8 => show_frame(facts, streams, names, id, 7, timestamp, media, words),
-        9 => show_frame(facts, streams, names, id, 8, timestamp, media, words),
+        8 => show_frame(
+            media,
+            words,
+            frame_in(
+                facts,
+                streams,
+                requests,
+                names,
+                id,
+                Event::AudioDataReceived { timestamp },
+            ),
+        ),
+        9 => show_frame(
+            media,
+            words,
+            frame_in(
+                facts,
+                streams,
+                requests,
+                names,
+                id,
+                Event::VideoDataReceived { timestamp },
+            ),
+        ),
         _ => show_nothing(media, words),
     }
     0

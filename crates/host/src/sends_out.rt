@@ -1,6 +1,6 @@
 // The sends. No session is made of the arrays, and none is handed back.
-use arrays::is_set;
 use image::image_sound;
+use parts::is_set;
 use parts::metadata_of;
 use record::time_of;
 use sending::write_media;
@@ -14,7 +14,7 @@ ghost use lib.ListN.{getD};
 ghost use Rattle.image.specs.Image.{readableAt, sessionAt};
 ghost use Rattle.parts.specs.Parts.{metadataOf};
 ghost use Rattle.sending.specs.Sends.{sendsMedia, sendsMetadata, sendsPing};
-ghost use Rattle.arrays.specs.Turns.{isSet};
+ghost use Rattle.parts.specs.Told.{isSet};
 ghost use Rattle.host.specs.Sends.{hostedPing, hostedSend};
 
 #[no_mangle]

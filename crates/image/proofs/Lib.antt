@@ -1,4 +1,3 @@
 pub mod TestsLaws
 pub mod RowsLaws
 pub mod QuickLaws
-pub mod RoundTheorems

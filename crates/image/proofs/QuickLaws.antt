@@ -12,14 +12,13 @@ use borrow.Author.Tests.{le-leb, lt-leb, le-ltb, lt-ltb, leb-true, ltb-true}
 use Rattle.numbers.specs.Choose.{pick}
 use Rattle.numbers.proofs.PatternLaws.{le-or-lt}
 use Rattle.text.specs.declared.names.Name.{Name}
-use Rattle.tables.specs.Entries.{requestName, requestNumber, streamName, streamNumber}
+use Rattle.tables.specs.Entries.{noRequest, noStream, requestName, requestNumber, streamName, streamNumber}
 use Rattle.tables.specs.Tables.{risesFrom, sound, tableSound}
 use Rattle.tables.proofs.SoundLaws.{both, rises-sound}
 use Rattle.session.specs.State.{appFits, sessionSound}
-use Rattle.session.specs.declared.session.Session.{Session}
-use Rattle.image.specs.Image.{cell, every, factsReadable, joined, keysOf, readableAt, requestOf, requestReadable, requestsAt, sessionAt, soundAt, streamOf, streamReadable, streamsAt, titlesOf}
+use Rattle.image.specs.Image.{cell, every, factsReadable, joined, keysOf, readableAt, requestOf, requestReadable, requestsAt, sessionAt, soundAt, streamOf, streamReadable, streamsAt, titlesOf, usedRequests, usedStreams}
 use Rattle.image.specs.Quick.{quickAt, requestWeight, rowNumber, streamWeight}
-use Rattle.image.proofs.RowsLaws.{joined-length, part-length}
+use Rattle.image.proofs.RowsLaws.{all-length, used-front, used-length}
 
 -- ---- a row of a stream
 module _ (row : List ℕ) where
@@ -163,10 +162,18 @@ module _ (facts : List ℕ) (streams requests names : List (List ℕ)) where
           let s = facts-fit in
           let m : cell facts 6 % 4294967296 ≡ cell facts 6 = mod-eq-of-lt (s .0) in
           let n : cell facts 7 % 4294967296 ≡ cell facts 7 = mod-eq-of-lt (s .1) in
-          let ls : length (streamsAt streams names) ≡ 16 = joined-length streamOf streams (keysOf names) (h ∙ sym (part-length 2 names (omega (arith, k)))) ∙ h in
-          let lr : length (requestsAt requests names) ≡ 16 = joined-length requestOf requests (titlesOf names) (g ∙ sym (part-length 18 names (omega (arith, k)))) ∙ g in
-          let x = rises-sound streamNumber streamName (cell facts 6) 0 _ (rows-rise streamOf streamNumber streamName streamReadable streamWeight (cell facts 6) (omega (arith, s .0)) stream-says 0 (cell facts 8) streams (keysOf names) (v .0)) in
-          let y = rises-sound requestNumber requestName (cell facts 7) 0 _ (rows-rise requestOf requestNumber requestName requestReadable requestWeight (cell facts 7) (omega (arith, s .1)) request-says 0 (cell facts 9) requests (titlesOf names) (v .1)) in
+          let ks = all-length streamOf streams names 2 h (omega (arith, k)) in
+          let kr = all-length requestOf requests names 18 g (omega (arith, k)) in
+          let cs = leb-true (cell facts 8) 16 (d .0) in
+          let cr = leb-true (cell facts 9) 16 (w .0) in
+          let ls : length (streamsAt (cell facts 8) streams names) ≡ 16 = used-length (joined streamOf streams (keysOf names)) ks noStream (cell facts 8) cs in
+          let lr : length (requestsAt (cell facts 9) requests names) ≡ 16 = used-length (joined requestOf requests (titlesOf names)) kr noRequest (cell facts 9) cr in
+          let x : sound streamNumber streamName (cell facts 6) (take (cell facts 8) (streamsAt (cell facts 8) streams names)) ≡ true =
+          ap (sound streamNumber streamName (cell facts 6)) (used-front (joined streamOf streams (keysOf names)) ks noStream (cell facts 8))
+          ∙ rises-sound streamNumber streamName (cell facts 6) 0 _ (rows-rise streamOf streamNumber streamName streamReadable streamWeight (cell facts 6) (omega (arith, s .0)) stream-says 0 (cell facts 8) streams (keysOf names) (v .0)) in
+          let y : sound requestNumber requestName (cell facts 7) (take (cell facts 9) (requestsAt (cell facts 9) requests names)) ≡ true =
+          ap (sound requestNumber requestName (cell facts 7)) (used-front (joined requestOf requests (titlesOf names)) kr noRequest (cell facts 9))
+          ∙ rises-sound requestNumber requestName (cell facts 7) 0 _ (rows-rise requestOf requestNumber requestName requestReadable requestWeight (cell facts 7) (omega (arith, s .1)) request-says 0 (cell facts 9) requests (titlesOf names) (v .1)) in
           simp
           (sym e ∙ q, rows-readable streamOf streamNumber streamName streamReadable streamWeight (cell facts 6) (omega (arith, s .0)) stream-says 0 (cell facts 8) streams (v .0), rows-readable requestOf requestNumber requestName requestReadable requestWeight (cell facts 7) (omega (arith, s .1)) request-says 0 (cell facts 9) requests (v .1), a .0, app-fits (eqb (cell facts 3) 1) (cell facts 4) (c .0), m, n, ls, lr, d .0, w .0, x, y)
 
@@ -175,6 +182,6 @@ module _ (facts : List ℕ) (streams requests names : List (List ℕ)) where
     unfolding soundAt
     sound-rows q = simp (sym e ∙ q)
 
-    pub sound-made : r ≡ true → (s : Session) → s ≡ sessionAt facts streams requests names → (t : Bool) → t ≡ sessionSound s → t ≡ soundAt facts streams requests names
+    pub sound-read : r ≡ true → (t : Bool) → t ≡ sessionSound (sessionAt facts streams requests names) → t ≡ soundAt facts streams requests names
     unfolding soundAt
-    sound-made q s z t w = w ∙ ap sessionSound z ∙ simp (sym e ∙ q)
+    sound-read q t w = w ∙ simp (sym e ∙ q)

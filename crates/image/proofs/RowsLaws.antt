@@ -1,46 +1,21 @@
--- Rows read one by one, and rows written one by one.
-use mathlib.Core.Path.{_≡_, refl, sym, ap, _∙_}
-use Prim.Native.Nat.{ℕ, zero, suc, _+_, _%_, _≤_, _<_, min}
+-- Rows read one by one, and rows found.
+use mathlib.Core.Path.{_≡_, refl, sym, ap, _∙_, subst}
+use Prim.Native.Nat.{ℕ, zero, suc, _+_, _-_, _%_, _≤_, _<_, min}
 use native.Mathlib.Numerals.{add-one}
 use native.Mathlib.Omega.{arith}
 use mathlib.Core.Bool.{Bool, true, false, _&&_}
-use mathlib.Core.List.{List, [], _∷_, _++_, map, append-assoc, append-nil}
+use mathlib.Core.Logic.{inl, inr}
+use mathlib.Core.List.{List, [], _∷_, _++_, append-nil}
 use mathlib.Core.Option.{Option, some, none}
-use lib.ListN.{length, length-append, take, drop, set, getD, length-take, length-drop, length-map, drop-of-length-le, take-append-drop}
-use lib.Seq.{drop-set-lt, take-at, getD-drop, getD-take, length-take-le, take-all, take-suc, take-suc-set}
-use Rattle.tables.specs.Entries.{foundStream, noStream, streamNumber, unreadStream}
+use lib.ListN.{length, length-append, length-replicate, take, drop, set, getD, length-take, length-drop, replicate}
+use lib.Seq.{append-snoc, getD-drop, getD-take, length-take-le, set-at, take-all, take-at, take-suc, take-take}
+use Rattle.numbers.proofs.PatternLaws.{le-or-lt}
 use Rattle.tables.specs.Tables.{look}
-use Rattle.tables.specs.declared.streams.Stream.{Stream}
-use Rattle.tables.specs.declared.streams.StreamFound.{StreamFound}
 use Rattle.tables.proofs.TablesLaws.{look-at, next-entry, no-entry, seek-done, seek-next, take-in}
-use Rattle.image.specs.Image.{cell, every, factsReadable, joined, keysOf, readableAt, requestReadable, streamOf, streamReadable, streamsAt}
+use Rattle.image.specs.Image.{Wide, cell, every, factsReadable, joined, readableAt, requestReadable, streamReadable}
 
 -- ---- rows joined with their names
 module _ {A : Type 0} (f : List ℕ → List ℕ → A) where
-  snoc : (a b : List (List ℕ)) (x y : List ℕ) → length a ≡ length b → joined f (a ++ (x ∷ [])) (b ++ (y ∷ [])) ≡ joined f a b ++ (f x y ∷ [])
-  unfolding joined
-  snoc [] [] x y e = refl
-  snoc [] (q ∷ b) x y e = absurd (omega (arith, e))
-  snoc (p ∷ a) [] x y e = absurd (omega (arith, e))
-  snoc (p ∷ a) (q ∷ b) x y e = ap (λ (t : List A). f p q ∷ t) (snoc a b x y (omega (arith, e)))
-
-  pub join-next :
-      (rows names : List (List ℕ)) (i : ℕ) → i < length rows → i < length names
-      → joined f (take (i + 1) rows) (take (i + 1) names) ≡ joined f (take i rows) (take i names) ++ (f (getD rows i []) (getD names i []) ∷ [])
-  join-next rows names i h g =
-      (λ j. joined f (take (add-one i j) rows) (take (add-one i j) names))
-      ∙ (λ j. joined f (take-suc rows i [] h j) (take-suc names i [] g j))
-      ∙ snoc (take i rows) (take i names) (getD rows i []) (getD names i []) (length-take-le i rows (omega arith) ∙ sym (length-take-le i names (omega arith)))
-
-  pub join-step :
-      (rows names : List (List ℕ)) (t : List A) (i : ℕ) (e : A)
-      → i < length rows → i < length names → i < length t → take i t ≡ joined f (take i rows) (take i names) → e ≡ f (getD rows i []) (getD names i [])
-      → take (i + 1) (set t i e) ≡ joined f (take (i + 1) rows) (take (i + 1) names)
-  join-step rows names t i e h g k inv q =
-      ap (λ (j : ℕ). take j (set t i e)) (add-one i) ∙ take-suc-set t i e k
-      ∙ (λ j. inv j ++ (q j ∷ []))
-      ∙ sym (join-next rows names i h g)
-
   pub joined-at : (rows names : List (List ℕ)) (i : ℕ) (d : A) → i < length rows → i < length names → getD (joined f rows names) i d ≡ f (getD rows i []) (getD names i [])
   unfolding joined
   joined-at [] names i d h g = absurd (omega arith)
@@ -58,8 +33,26 @@ module _ {A : Type 0} (f : List ℕ → List ℕ → A) where
 pub part-length : (b : ℕ) (names : List (List ℕ)) → b + 16 ≤ length names → length (take 16 (drop b names)) ≡ 16
 part-length b names h = length-take-le 16 (drop b names) (omega (arith, length-drop b names))
 
-pub part-at : (b : ℕ) (names : List (List ℕ)) (i : ℕ) → i < 16 → getD (take 16 (drop b names)) i [] ≡ getD names (b + i) []
+part-at : (b : ℕ) (names : List (List ℕ)) (i : ℕ) → i < 16 → getD (take 16 (drop b names)) i [] ≡ getD names (b + i) []
 part-at b names i h = getD-take 16 (drop b names) i [] h ∙ getD-drop b names i []
+
+-- ---- a table whose places past the count are blank
+module _ {A : Type 0} (l : List A) (h : length l ≡ 16) (blank : A) (c : ℕ) where
+  pub used-front : take c (take c l ++ replicate (16 - c) blank) ≡ take c l
+  used-front = elim (le-or-lt c 16) [
+    | inl g ↦ take-at (take c l) (replicate (16 - c) blank) c (length-take-le c l (omega (arith, h)))
+    | inr g ↦
+        let z : 16 - c ≡ 0 = omega (arith, g) in
+        ap (λ (j : ℕ). take c (take c l ++ replicate j blank)) z ∙ ap (take c) (append-nil (take c l)) ∙ take-take c c l (omega arith)
+  ]
+
+  pub used-length : c ≤ 16 → length (take c l ++ replicate (16 - c) blank) ≡ 16
+  used-length g = omega (arith, length-append (take c l) (replicate (16 - c) blank), length-take-le c l (omega (arith, h)), length-replicate (16 - c) blank)
+
+  pub used-counted : (n : ℕ) → n ≡ min c 16 → take n l ++ replicate (16 - n) blank ≡ take c l ++ replicate (16 - c) blank
+  used-counted n q =
+      let m : 16 - n ≡ 16 - c = omega (arith, q) in
+      λ j. take-in l c n (omega (arith, q, h)) j ++ replicate (m j) blank
 
 -- ---- a test of every row
 module _ (p : List ℕ → Bool) (l : List (List ℕ)) (n i : ℕ) (r : Bool) (so : every p (drop i (take n l)) ≡ r) where
@@ -79,46 +72,67 @@ module _ (p : List ℕ → Bool) (l : List (List ℕ)) (n i : ℕ) (r : Bool) (s
   unfolding every
   every-end h = sym (sym so ∙ ap (every p) (no-entry l n i h))
 
--- ---- all rows read
-module _ {A : Type 0} (f : List ℕ → List ℕ → A) (rows names : List (List ℕ)) (b : ℕ) (h : length rows ≡ 16) (g : b + 16 ≤ length names) (t : List A) (k : length t ≡ 16) (i : ℕ) (inv : take i t ≡ joined f (take i rows) (take i (take 16 (drop b names)))) where
-  pub read-step : i < 16 → (e : A) → e ≡ f (getD rows i []) (getD names (b + i) []) → take (i + 1) (set t i e) ≡ joined f (take (i + 1) rows) (take (i + 1) (take 16 (drop b names)))
-  read-step q e z =
-      let l = part-length b names g in
-      join-step f rows (take 16 (drop b names)) t i e (omega (arith, h)) (omega (arith, l)) (omega (arith, k)) inv (z ∙ ap (f (getD rows i [])) (sym (part-at b names i q)))
+-- ---- rows, and the entries that are made of them
+module _ {A : Type 0} (f : List ℕ → List ℕ → A) (rows names : List (List ℕ)) (b : ℕ) (h : length rows ≡ 16) (g : b + 16 ≤ length names) where
+  abbrev all : List A
+  all = joined f rows (take 16 (drop b names))
 
-  pub read-done : i ≡ 16 → t ≡ joined f rows (take 16 (drop b names))
-  read-done q =
-      let l = part-length b names g in
-      sym (take-all i t (omega (arith, k, q))) ∙ inv ∙ (λ j. joined f (take-all i rows (omega (arith, h, q)) j) (take-all i (take 16 (drop b names)) (omega (arith, l, q)) j))
+  pub all-length : length (joined f rows (take 16 (drop b names))) ≡ 16
+  all-length = joined-length f rows (take 16 (drop b names)) (h ∙ sym (part-length b names g)) ∙ h
 
--- ---- the stream of a number
-module _ (rows names : List (List ℕ)) (h : length rows ≡ 16) (g : length names ≡ 34) (id : ℕ) where
-  all : length (streamsAt rows names) ≡ 16
-  all = joined-length streamOf rows (keysOf names) (h ∙ sym (part-length 2 names (omega (arith, g)))) ∙ h
+  entry-at : (i : ℕ) (d : A) → i < 16 → getD all i d ≡ f (getD rows i []) (getD names (b + i) [])
+  entry-at i d q =
+      joined-at f rows (take 16 (drop b names)) i d (omega (arith, h)) (omega (arith, part-length b names g))
+      ∙ ap (f (getD rows i [])) (part-at b names i q)
 
-  here : (i : ℕ) → i < 16 → getD (streamsAt rows names) i unreadStream ≡ streamOf (getD rows i []) (getD names (2 + i) [])
-  here i q =
-      joined-at streamOf rows (keysOf names) i unreadStream (omega (arith, h)) (omega (arith, part-length 2 names (omega (arith, g))))
-      ∙ ap (streamOf (getD rows i [])) (part-at 2 names i q)
+  -- one row more is read, over a blank place
+  pub read-step :
+      (blank : A) (t : List A) (i : ℕ) → t ≡ take i (joined f rows (take 16 (drop b names))) ++ replicate (16 - i) blank → i < 16 → (e : A) → e ≡ f (getD rows i []) (getD names (b + i) [])
+      → set t i e ≡ take (i + 1) (joined f rows (take 16 (drop b names))) ++ replicate (16 - (i + 1)) blank
+  read-step blank t i inv q e z =
+      let k : ℕ = 16 - (i + 1) in
+      let m : 16 - i ≡ suc k = omega arith in
+      ap (λ (u : List A). set u i e) inv
+      ∙ ap (λ (j : ℕ). set (take i all ++ replicate j blank) i e) m
+      ∙ set-at (take i all) blank (replicate k blank) e i (length-take-le i all (omega (arith, all-length)))
+      ∙ ap (λ (x : A). take i all ++ x ∷ replicate k blank) (z ∙ sym (entry-at i e q))
+      ∙ sym (append-snoc (take i all) (getD all i e) (replicate k blank))
+      ∙ ap (λ (u : List A). u ++ replicate k blank) (sym (take-suc all i e (omega (arith, all-length))) ∙ ap (λ (j : ℕ). take j all) (sym (add-one i)))
 
-  module _ (n : ℕ) (m : n ≤ 16) where
-    module _ (i : ℕ) (q : i < n) (none-yet : look streamNumber id (take i (streamsAt rows names)) ≡ none) (v : ℕ) (z : v ≡ cell (getD rows i []) 0 % 4294967296) where
-      numbered : streamNumber (getD (streamsAt rows names) i unreadStream) ≡ v
-      numbered = ap streamNumber (here i (omega arith)) ∙ sym z
+  -- ---- the entry of a number
+  module _ (number : A → ℕ) (numbered : (row bytes : List ℕ) → number (f row bytes) ≡ cell row 0 % 4294967296) {B : Type 0} (told : Option A → B) (id : ℕ) where
+    module _ (n : ℕ) (m : n ≤ 16) where
+      module _ (i : ℕ) (q : i < n) (none-yet : look number id (take i (joined f rows (take 16 (drop b names)))) ≡ none) (v : ℕ) (z : v ≡ cell (getD rows i []) 0 % 4294967296) where
+        is-numbered : (d : A) → number (getD all i d) ≡ v
+        is-numbered d = ap number (entry-at i d (omega arith)) ∙ numbered (getD rows i []) (getD names (b + i) []) ∙ sym z
 
-      pub find-here : v ≡ id → (e : Stream) → e ≡ streamOf (getD rows i []) (getD names (2 + i) []) → _≡_ {A = StreamFound} (record { found = true; stream = e }) (foundStream (look streamNumber id (take n (streamsAt rows names))))
-      find-here w e x =
-          ap {B = StreamFound} (λ (s : Stream). record { found = true; stream = s }) (x ∙ sym (here i (omega arith)))
-          ∙ ap foundStream (sym (look-at streamNumber (streamsAt rows names) n n (omega (arith, all)) id i unreadStream (q, (none-yet, numbered ∙ w))))
+        pub find-here : v ≡ id → (e : A) → e ≡ f (getD rows i []) (getD names (b + i) []) → told (some e) ≡ told (look number id (take n (joined f rows (take 16 (drop b names)))))
+        find-here w e x =
+            ap (λ (s : A). told (some s)) (x ∙ sym (entry-at i e (omega arith)))
+            ∙ ap told (sym (look-at number all n n (omega (arith, all-length)) id i e (q, (none-yet, is-numbered e ∙ w))))
 
-      pub find-next : (v ≡ id → ⊥) → look streamNumber id (take (i + 1) (streamsAt rows names)) ≡ none
-      find-next w = seek-next streamNumber (streamsAt rows names) id i unreadStream (omega (arith, all)) none-yet (λ x. w (sym numbered ∙ x))
+        pub find-next : (d : A) → (v ≡ id → ⊥) → look number id (take (i + 1) (joined f rows (take 16 (drop b names)))) ≡ none
+        find-next d w = seek-next number all id i d (omega (arith, all-length)) none-yet (λ x. w (sym (is-numbered d) ∙ x))
 
-    pub find-none : (i : ℕ) → look streamNumber id (take i (streamsAt rows names)) ≡ none → i ≡ n → (e : Stream) → e ≡ noStream → _≡_ {A = StreamFound} (record { found = false; stream = e }) (foundStream (look streamNumber id (take n (streamsAt rows names))))
-    find-none i w q e x = ap {B = StreamFound} (λ (s : Stream). record { found = false; stream = s }) x ∙ ap foundStream (sym (seek-done streamNumber (streamsAt rows names) id i n w q))
+      pub find-none : (i : ℕ) → look number id (take i (joined f rows (take 16 (drop b names)))) ≡ none → i ≡ n → (r : B) → r ≡ told none → r ≡ told (look number id (take n (joined f rows (take 16 (drop b names)))))
+      find-none i w q r x = x ∙ ap told (sym (seek-done number all id i n w q))
 
-  pub find-counted : (c n : ℕ) → n ≡ min c 16 → (r : StreamFound) → r ≡ foundStream (look streamNumber id (take n (streamsAt rows names))) → r ≡ foundStream (look streamNumber id (take c (streamsAt rows names)))
-  find-counted c n q r e = e ∙ ap (λ (t : List Stream). foundStream (look streamNumber id t)) (take-in (streamsAt rows names) c n (omega (arith, q, all)))
+    pub find-counted : (c n : ℕ) → n ≡ min c 16 → (r : B) → r ≡ told (look number id (take n (joined f rows (take 16 (drop b names))))) → r ≡ told (look number id (take c (joined f rows (take 16 (drop b names)))))
+    find-counted c n q r e = e ∙ ap (λ (t : List A). told (look number id t)) (take-in all c n (omega (arith, q, all-length)))
+
+-- ---- each row is as wide as its type says
+wide-snoc : (k : ℕ) (a : List (List ℕ)) (x : List ℕ) → Wide k a → length x ≡ k → Wide k (a ++ (x ∷ []))
+unfolding Wide
+wide-snoc k [] x w e = (e, tt)
+wide-snoc k (y ∷ a) x w e = (w .0, wide-snoc k a x (w .1) e)
+
+pub wide-next : (k : ℕ) (rows : List (List ℕ)) (i : ℕ) → i < length rows → Wide k (take i rows) → length (getD rows i []) ≡ k → Wide k (take (i + 1) rows)
+wide-next k rows i h w e =
+    let p : take i rows ++ (getD rows i [] ∷ []) ≡ take (i + 1) rows = sym (take-suc rows i [] h) ∙ ap (λ (j : ℕ). take j rows) (sym (add-one i)) in
+    subst (Wide k) p (wide-snoc k (take i rows) (getD rows i []) w e)
+
+pub wide-all : (k : ℕ) (rows : List (List ℕ)) (i : ℕ) → length rows ≤ i → Wide k (take i rows) → Wide k rows
+wide-all k rows i h w = subst (Wide k) (take-all i rows h) w
 
 -- ---- whether all is readable
 module _ (facts : List ℕ) (streams requests : List (List ℕ)) (b : Bool) (e : b ≡ factsReadable facts) where

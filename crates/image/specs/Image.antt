@@ -1,16 +1,18 @@
 -- A session in four arrays: ten facts, sixteen rows of four for the streams, sixteen rows of six for the requests, and
 -- thirty-four names of 128 bytes: the version, the app, the streams' keys, the requests' names.
-use Prim.Native.Nat.{ℕ, _%_}
+use mathlib.Core.Path.{_≡_}
+use Prim.Native.Nat.{ℕ, _-_, _%_}
 use mathlib.Core.Bool.{Bool, true, _&&_}
-use mathlib.Core.List.{List, [], _∷_, _++_, map}
+use mathlib.Core.List.{List, [], _∷_, _++_}
 use lib.Dec.{eqb, ltb}
-use lib.ListN.{drop, getD, take}
+use lib.ListN.{drop, getD, length, replicate, take}
 use Rattle.text.specs.declared.names.Name.{Name}
+use Rattle.tables.specs.Entries.{noRequest, noStream}
 use Rattle.tables.specs.declared.requests.Request.{Request}
 use Rattle.tables.specs.declared.streams.Stream.{Stream}
 use Rattle.session.specs.State.{sessionSound}
 use Rattle.session.specs.declared.session.Session.{Session}
-use Rattle.image.specs.Cases.{flagNumber, kindNumber, kindOf, modeNumber, modeOf, sessionState, sessionStateNumber, stateNumber, stateOf}
+use Rattle.image.specs.Cases.{kindOf, modeOf, sessionState, stateOf}
 
 -- the k-th number of a row
 abbrev pub cell : List ℕ → ℕ → ℕ
@@ -45,11 +47,18 @@ keysOf names = take 16 (drop 2 names)
 abbrev pub titlesOf : List (List ℕ) → List (List ℕ)
 titlesOf names = take 16 (drop 18 names)
 
-abbrev pub streamsAt : List (List ℕ) → List (List ℕ) → List Stream
-streamsAt rows names = joined streamOf rows (keysOf names)
+-- the entries in use; a place past them is not read, and blank in the session
+abbrev pub usedStreams : ℕ → List (List ℕ) → List (List ℕ) → List Stream
+usedStreams n rows names = take n (joined streamOf rows (keysOf names))
 
-abbrev pub requestsAt : List (List ℕ) → List (List ℕ) → List Request
-requestsAt rows names = joined requestOf rows (titlesOf names)
+abbrev pub usedRequests : ℕ → List (List ℕ) → List (List ℕ) → List Request
+usedRequests n rows names = take n (joined requestOf rows (titlesOf names))
+
+abbrev pub streamsAt : ℕ → List (List ℕ) → List (List ℕ) → List Stream
+streamsAt n rows names = usedStreams n rows names ++ replicate (16 - n) noStream
+
+abbrev pub requestsAt : ℕ → List (List ℕ) → List (List ℕ) → List Request
+requestsAt n rows names = usedRequests n rows names ++ replicate (16 - n) noRequest
 
 -- the facts: start, the version's length, state, whether an app is set, its length, encoding, the next stream's number, the next request's, how many streams, how many requests
 unfoldable pub sessionAt : List ℕ → List (List ℕ) → List (List ℕ) → List (List ℕ) → Session
@@ -65,8 +74,8 @@ sessionAt facts streams requests names =
       «next_request» = cell facts 7 % 4294967296;
       «stream_count» = cell facts 8;
       «request_count» = cell facts 9;
-      streams = streamsAt streams names;
-      requests = requestsAt requests names;
+      streams = streamsAt (cell facts 8) streams names;
+      requests = requestsAt (cell facts 9) requests names;
     }
 
 -- ---- whether each number names a case or fits its 32 bits, in the facts and in the rows in use
@@ -93,28 +102,18 @@ readableAt facts streams requests = factsReadable facts && (every streamReadable
 unfoldable pub soundAt : List ℕ → List (List ℕ) → List (List ℕ) → List (List ℕ) → Bool
 soundAt facts streams requests names = readableAt facts streams requests && sessionSound (sessionAt facts streams requests names)
 
--- ---- from a session to the arrays
-abbrev pub streamRow : Stream → List ℕ
-streamRow s = s .id .0 ∷ stateNumber (s .state) ∷ modeNumber (s .mode) ∷ s .key .len ∷ []
-
-abbrev pub requestRow : Request → List ℕ
-requestRow r = r .id .0 ∷ kindNumber (r .kind) ∷ r .stream .0 ∷ modeNumber (r .mode) ∷ r .transaction ∷ r .name .len ∷ []
-
-abbrev pub keyBytes : Stream → List ℕ
-keyBytes s = s .key .bytes
-
-abbrev pub titleBytes : Request → List ℕ
-titleBytes r = r .name .bytes
-
-abbrev pub factsOf : Session → List ℕ
-factsOf s =
-    s .start ∷ s .version .len ∷ sessionStateNumber (s .state) ∷ flagNumber (s .«has_app») ∷ s .app .len ∷ s .encoding ∷ s .«next_stream» ∷ s .«next_request» ∷ s .«stream_count» ∷ s .«request_count» ∷ []
-
-abbrev pub namesOf : Session → List (List ℕ)
-namesOf s = s .version .bytes ∷ s .app .bytes ∷ (map keyBytes (s .streams) ++ map titleBytes (s .requests))
-
+-- ---- the four arrays, and what their types say of them
 abbrev pub Arrays : Type 0
 Arrays = List ℕ × (List (List ℕ) × (List (List ℕ) × List (List ℕ)))
 
-unfoldable pub arraysOf : Session → Arrays
-arraysOf s = (factsOf s, (map streamRow (s .streams), (map requestRow (s .requests), namesOf s)))
+unfoldable pub Wide : ℕ → List (List ℕ) → Type 0
+Wide k [] = Unit
+Wide k (r ∷ rows) = (length r ≡ k) × Wide k rows
+
+pub record Shaped (facts : List ℕ) (streams requests names : List (List ℕ)) : Type 0 where
+  pub ten : length facts ≡ 10
+  pub sixteen-streams : length streams ≡ 16
+  pub sixteen-requests : length requests ≡ 16
+  pub thirty-four : length names ≡ 34
+  pub four-wide : Wide 4 streams
+  pub six-wide : Wide 6 requests

@@ -4,6 +4,7 @@
 // one: nothing that a host writes into them is trusted.
 mod cases;
 mod reading;
+mod shape;
 mod sound;
 
 pub use cases::flag_number;
@@ -11,7 +12,8 @@ pub use cases::kind_number;
 pub use cases::mode_number;
 pub use cases::session_state_number;
 pub use cases::state_number;
+pub use reading::find_request_row;
 pub use reading::find_row;
-pub use reading::read_session;
+pub use reading::rows_in_use;
+pub use shape::types_say;
 pub use sound::image_sound;
-pub use sound::readable;

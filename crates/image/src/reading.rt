@@ -4,7 +4,9 @@ use crate::cases::mode_of;
 use crate::cases::session_state;
 use crate::cases::state_of;
 use session::Session;
+use session::session_sound;
 use tables::Request;
+use tables::RequestFound;
 use tables::Stream;
 use tables::StreamFound;
 use tables::no_request;
@@ -14,10 +16,11 @@ use text::RequestId;
 use text::StreamId;
 ghost use mathlib.Core.Path.{_≡_};
 ghost use Prim.Native.Nat.{_%_, _≤_, min};
-ghost use lib.ListN.{length, take};
-ghost use Rattle.tables.specs.Entries.{foundStream, streamNumber};
+ghost use lib.ListN.{length};
+ghost use Rattle.tables.specs.Entries.{foundRequest, foundStream, requestNumber, streamNumber};
 ghost use Rattle.tables.specs.Tables.{look};
-ghost use Rattle.image.specs.Image.{requestOf, requestsAt, sessionAt, streamOf, streamsAt};
+ghost use Rattle.session.specs.State.{sessionSound};
+ghost use Rattle.image.specs.Image.{requestOf, requestsAt, sessionAt, streamOf, streamsAt, usedRequests, usedStreams};
 
 // How many of the sixteen places a count takes.
 pub fn rows_in_use(count: u64) -> usize
@@ -67,14 +70,16 @@ fn read_request(row: [u64; 6], bytes: [u8; 128]) -> Request
     }
 }
 
-fn read_streams(rows: &[[u64; 4]], names: &[[u8; 128]]) -> [Stream; 16]
+// The rows in use; the places behind them are blank.
+fn read_streams(rows: &[[u64; 4]], names: &[[u8; 128]], count: u64) -> [Stream; 16]
     requires { ⌜ (length (now rows) ≡ 16) × (length (now names) ≡ 34) ⌝ }
-    ensures { λ r. ⌜ r ≡ streamsAt (now (rows .entry)) (now (names .entry)) ⌝ }
+    ensures { λ r. ⌜ r ≡ streamsAt count (now (rows .entry)) (now (names .entry)) ⌝ }
 {
+    let n = rows_in_use(count);
     let blank = no_stream();
     let mut t = [blank; 16];
     let mut i: usize = 0;
-    while i < 16 {
+    while i < n {
         let row = rows[i];
         let bytes = names[2 + i];
         let e = read_stream(row, bytes);
@@ -84,14 +89,15 @@ fn read_streams(rows: &[[u64; 4]], names: &[[u8; 128]]) -> [Stream; 16]
     t
 }
 
-fn read_requests(rows: &[[u64; 6]], names: &[[u8; 128]]) -> [Request; 16]
+fn read_requests(rows: &[[u64; 6]], names: &[[u8; 128]], count: u64) -> [Request; 16]
     requires { ⌜ (length (now rows) ≡ 16) × (length (now names) ≡ 34) ⌝ }
-    ensures { λ r. ⌜ r ≡ requestsAt (now (rows .entry)) (now (names .entry)) ⌝ }
+    ensures { λ r. ⌜ r ≡ requestsAt count (now (rows .entry)) (now (names .entry)) ⌝ }
 {
+    let n = rows_in_use(count);
     let blank = no_request();
     let mut t = [blank; 16];
     let mut i: usize = 0;
-    while i < 16 {
+    while i < n {
         let row = rows[i];
         let bytes = names[18 + i];
         let e = read_request(row, bytes);
@@ -101,7 +107,8 @@ fn read_requests(rows: &[[u64; 6]], names: &[[u8; 128]]) -> [Request; 16]
     t
 }
 
-pub fn read_among(
+// All of a session, which only the slow way of `image_sound` needs.
+fn read_among(
     facts: &[u64; 10],
     streams: &[[u64; 4]],
     requests: &[[u64; 6]],
@@ -120,8 +127,8 @@ pub fn read_among(
     let next_request = short_number(facts[7]);
     let stream_count = facts[8] as usize;
     let request_count = facts[9] as usize;
-    let stream_table = read_streams(streams, names);
-    let request_table = read_requests(requests, names);
+    let stream_table = read_streams(streams, names, facts[8]);
+    let request_table = read_requests(requests, names, facts[9]);
     Session {
         start: facts[0],
         version: Name {
@@ -144,20 +151,22 @@ pub fn read_among(
     }
 }
 
-pub fn read_session(
+// The session that stands in the arrays passes the tests of refusal 15.
+pub fn read_sound(
     facts: &[u64; 10],
     streams: &[[u64; 4]; 16],
     requests: &[[u64; 6]; 16],
     names: &[[u8; 128]; 34],
-) -> Session
-    ensures { λ r. ⌜ r ≡ sessionAt (now (facts .entry)) (now (streams .entry)) (now (requests .entry)) (now (names .entry)) ⌝ }
+) -> bool
+    ensures { λ r. ⌜ r ≡ sessionSound (sessionAt (now (facts .entry)) (now (streams .entry)) (now (requests .entry)) (now (names .entry))) ⌝ }
 {
-    read_among(facts, streams, requests, names)
+    let session = read_among(facts, streams, requests, names);
+    session_sound(session)
 }
 
 fn find_among(rows: &[[u64; 4]], names: &[[u8; 128]], n: usize, id: StreamId) -> StreamFound
     requires { ⌜ (n ≤ 16) × ((length (now rows) ≡ 16) × (length (now names) ≡ 34)) ⌝ }
-    ensures { λ r. ⌜ r ≡ foundStream (look streamNumber (id .0) (take n (streamsAt (now (rows .entry)) (now (names .entry))))) ⌝ }
+    ensures { λ r. ⌜ r ≡ foundStream (look streamNumber (id .0) (usedStreams n (now (rows .entry)) (now (names .entry)))) ⌝ }
 {
     let want = id.0;
     let mut i: usize = 0;
@@ -180,6 +189,31 @@ fn find_among(rows: &[[u64; 4]], names: &[[u8; 128]], n: usize, id: StreamId) ->
     }
 }
 
+fn find_waiting(rows: &[[u64; 6]], names: &[[u8; 128]], n: usize, id: RequestId) -> RequestFound
+    requires { ⌜ (n ≤ 16) × ((length (now rows) ≡ 16) × (length (now names) ≡ 34)) ⌝ }
+    ensures { λ r. ⌜ r ≡ foundRequest (look requestNumber (id .0) (usedRequests n (now (rows .entry)) (now (names .entry)))) ⌝ }
+{
+    let want = id.0;
+    let mut i: usize = 0;
+    while i < n {
+        let row = rows[i];
+        if short_number(row[0]) == want {
+            let bytes = names[18 + i];
+            let request = read_request(row, bytes);
+            return RequestFound {
+                found: true,
+                request,
+            };
+        }
+        i += 1;
+    }
+    let request = no_request();
+    RequestFound {
+        found: false,
+        request,
+    }
+}
+
 // The stream of a number among those in use, without the others.
 pub fn find_row(
     streams: &[[u64; 4]; 16],
@@ -187,7 +221,19 @@ pub fn find_row(
     count: u64,
     id: StreamId,
 ) -> StreamFound
-    ensures { λ r. ⌜ r ≡ foundStream (look streamNumber (id .0) (take count (streamsAt (now (streams .entry)) (now (names .entry))))) ⌝ }
+    ensures { λ r. ⌜ r ≡ foundStream (look streamNumber (id .0) (usedStreams count (now (streams .entry)) (now (names .entry)))) ⌝ }
 {
     find_among(streams, names, rows_in_use(count), id)
+}
+
+// The waiting request of a number.
+pub fn find_request_row(
+    requests: &[[u64; 6]; 16],
+    names: &[[u8; 128]; 34],
+    count: u64,
+    id: RequestId,
+) -> RequestFound
+    ensures { λ r. ⌜ r ≡ foundRequest (look requestNumber (id .0) (usedRequests count (now (requests .entry)) (now (names .entry)))) ⌝ }
+{
+    find_waiting(requests, names, rows_in_use(count), id)
 }

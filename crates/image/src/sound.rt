@@ -1,7 +1,7 @@
 // Refusal 15 of the arrays, before a session is made of them.
-use crate::reading::read_among;
+use crate::reading::read_sound;
 use crate::reading::rows_in_use;
-use session::session_sound;
+use crate::shape::types_say;
 ghost use mathlib.Core.Path.{_≡_};
 ghost use Prim.Native.Nat.{_≤_};
 ghost use lib.ListN.{length, take};
@@ -95,12 +95,6 @@ fn readable_among(facts: &[u64; 10], streams: &[[u64; 4]], requests: &[[u64; 6]]
     requests_readable(requests, rows_in_use(facts[9]))
 }
 
-pub fn readable(facts: &[u64; 10], streams: &[[u64; 4]; 16], requests: &[[u64; 6]; 16]) -> bool
-    ensures { λ r. ⌜ r ≡ readableAt (now (facts .entry)) (now (streams .entry)) (now (requests .entry)) ⌝ }
-{
-    readable_among(facts, streams, requests)
-}
-
 // Readable rows whose numbers rise from 0 on, below the next one, with names that fit.
 fn streams_rise(rows: &[[u64; 4]], n: usize, next: u64) -> bool
     requires { ⌜ n ≤ length (now rows) ⌝ }
@@ -188,15 +182,15 @@ fn quickly_sound(facts: &[u64; 10], streams: &[[u64; 4]], requests: &[[u64; 6]])
     requests_rise(requests, facts[9] as usize, facts[7])
 }
 
-fn sound_among(
+pub fn image_sound(
     facts: &[u64; 10],
-    streams: &[[u64; 4]],
-    requests: &[[u64; 6]],
-    names: &[[u8; 128]],
+    streams: &[[u64; 4]; 16],
+    requests: &[[u64; 6]; 16],
+    names: &[[u8; 128]; 34],
 ) -> bool
-    requires { ⌜ (length (now streams) ≡ 16) × ((length (now requests) ≡ 16) × (length (now names) ≡ 34)) ⌝ }
     ensures { λ r. ⌜ r ≡ soundAt (now (facts .entry)) (now (streams .entry)) (now (requests .entry)) (now (names .entry)) ⌝ }
 {
+    types_say(facts, streams, requests, names);
     if !facts_readable(facts) {
         return false;
     }
@@ -206,17 +200,5 @@ fn sound_among(
     if !readable_among(facts, streams, requests) {
         return false;
     }
-    let session = read_among(facts, streams, requests, names);
-    session_sound(session)
-}
-
-pub fn image_sound(
-    facts: &[u64; 10],
-    streams: &[[u64; 4]; 16],
-    requests: &[[u64; 6]; 16],
-    names: &[[u8; 128]; 34],
-) -> bool
-    ensures { λ r. ⌜ r ≡ soundAt (now (facts .entry)) (now (streams .entry)) (now (requests .entry)) (now (names .entry)) ⌝ }
-{
-    sound_among(facts, streams, requests, names)
+    read_sound(facts, streams, requests, names)
 }

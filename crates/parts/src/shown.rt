@@ -72,7 +72,7 @@ pub fn show_media(
     numbers: &mut [u64; 4],
     words: &mut [[u8; 128]; 2],
     what: u64,
-    timestamp: u32,
+    timestamp: u64,
     app: Name,
     key: Name,
 )
@@ -80,7 +80,7 @@ pub fn show_media(
 {
     let app_bytes = app.bytes;
     let key_bytes = key.bytes;
-    let a = [what, timestamp as u64, app.len as u64, key.len as u64];
+    let a = [what, timestamp, app.len as u64, key.len as u64];
     let w = [app_bytes, key_bytes];
     *numbers = a;
     *words = w;

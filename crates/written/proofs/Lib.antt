@@ -1,1 +1,6 @@
-pub mod PlacesLaws
+pub mod EditsLaws
+pub mod BackLaws
+pub mod ColumnLaws
+pub mod AppliedTheorems
+pub mod RoundTheorems
+pub mod TidyTheorems

@@ -1,4 +1,5 @@
-// A session written into the four arrays of a host (crate image), every place of them.
-mod writing;
+// A change made in the four arrays of a host (crate image): only what it is about is written.
+mod applied;
+mod edits;
 
-pub use writing::write_session;
+pub use applied::apply_in;

@@ -1,5 +1,8 @@
-use borrow.Author.Tests.{not-false, not-true}
-use Rattle.host.proofs.FramesLaws.{frame-none, frame-off, frame-some}
+use mathlib.Core.Path.{ap, _∙_}
+use Prim.Native.Nat.{ℕ}
+use mathlib.Core.List.{List}
+use Rattle.image.specs.Image.{cell}
+use Rattle.parts.specs.Parts.{mediaShown}
 use borrow.Author.Needs.{needs}
 use Rattle.host.proofs.frames.show_frame.Statement.{statement}
 use Rattle.host.proofs.frames.show_frame.Tie as tie
@@ -9,13 +12,7 @@ show-frame-spec =
     tie.close
     (tie.spec
     (λ c κs. search needs)
-    (λ c κs. search needs)
-    (λ c. let a = c .before .before .before .before .before .args in frame-off (a .facts .now) (a .streams .now) (a .names .now) (a .what) (a .timestamp) (a .id .0) _ (c .before .before .before .before .connected-at .ensures) _ (not-true _ (c .before .before .before .if1 .taken)) (c .show-nothing .ensures))
-    (λ c. search needs)
     (λ c. search needs)
     (λ c. search needs)
     (λ c κs. search needs)
-    (λ c κs. search needs)
-    (λ c. let a = c .before .before .before .before .before .before .before .before .before .before .before .args in frame-none (a .facts .now) (a .streams .now) (a .names .now) (a .what) (a .timestamp) (a .id .0) _ (c .before .before .before .before .before .before .before .before .before .before .connected-at .ensures) _ (not-false _ (c .before .before .before .before .before .before .before .before .before .if1 .left)) _ (c .before .before .before .before .before .find-row .ensures) (not-true _ (c .before .before .before .if2 .taken)) (c .show-nothing2 .ensures))
-    (λ c κs. search needs)
-    (λ c. let a = c .before .before .before .before .before .before .before .before .before .before .before .before .args in frame-some (a .facts .now) (a .streams .now) (a .names .now) (a .what) (a .timestamp) (a .id .0) _ (c .before .before .before .before .before .before .before .before .before .before .before .connected-at .ensures) _ (not-false _ (c .before .before .before .before .before .before .before .before .before .before .if1 .left)) _ (c .before .before .before .before .before .before .find-row .ensures) (not-false _ (c .before .before .before .before .if2 .left)) (c .show-stream .ensures)))
+    (λ c. let a = c .before .before .before .before .before .before .args in c .show-media .ensures ∙ ap (λ (e : List ℕ). mediaShown (cell e 0) (cell e 9) (a .frame .app) (a .frame .key)) (c .before .before .before .event-numbers .ensures)))

@@ -1,9 +1,10 @@
 use mathlib.Core.Bool.{Bool}
 use borrow.Author.Tests.{not-false, not-true}
 use mathlib.Core.Path.{refl, ap, _∙_}
-use Rattle.host.proofs.DoorLaws.{door-open, door-shut, sent-told, sound-is}
+use Rattle.arrays.proofs.TurnsLaws.{door-open, door-shut, sound-is}
+use Rattle.host.proofs.SendsLaws.{sent-told}
 use Rattle.host.specs.Sends.{hostedSend, sentNumbers}
-use Rattle.arrays.specs.Turns.{isSet}
+use Rattle.parts.specs.Told.{isSet}
 use Rattle.image.specs.Image.{readableAt, sessionAt}
 use Rattle.session.specs.State.{sessionSound}
 use Rattle.sending.specs.Answers.{sendRefusal}

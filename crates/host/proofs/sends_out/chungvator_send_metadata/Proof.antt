@@ -4,7 +4,8 @@ use Rattle.image.specs.Image.{cell, readableAt, sessionAt}
 use Rattle.session.specs.State.{sessionSound}
 use Rattle.record.specs.Clock.{timeOf}
 use Rattle.wishes.specs.declared.outcome.Outcome.the-variants.{BadSession}
-use Rattle.host.proofs.DoorLaws.{door-open, door-shut, sent-told, sound-is}
+use Rattle.arrays.proofs.TurnsLaws.{door-open, door-shut, sound-is}
+use Rattle.host.proofs.SendsLaws.{sent-told}
 use Rattle.host.specs.Sends.{hostedSend, sentNumbers}
 use Rattle.sending.specs.Answers.{sendRefusal}
 use Rattle.sending.specs.Sends.{guardedSend, metadataSent}

@@ -5,7 +5,8 @@ use Rattle.session.specs.State.{sessionSound}
 use Rattle.record.specs.Clock.{timeOf}
 use Rattle.wishes.specs.declared.outcome.Outcome.the-variants.{BadSession}
 use Prim.Native.Nat.{ℕ}
-use Rattle.host.proofs.DoorLaws.{door-open, door-shut, ping-told, sound-is}
+use Rattle.arrays.proofs.TurnsLaws.{door-open, door-shut, sound-is}
+use Rattle.host.proofs.SendsLaws.{ping-told}
 use Rattle.host.specs.Sends.{hostedPing, pingNumbers}
 use Rattle.sending.specs.Sends.{pinged, sendsPing}
 use borrow.Author.Needs.{needs}
