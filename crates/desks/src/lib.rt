@@ -9,3 +9,5 @@ pub use asked::Asked;
 pub use asked::decision_in;
 pub use asked::is_read;
 pub use frames::frame_in;
+pub use seen::connected_in;
+pub use seen::stream_in;
