@@ -107,8 +107,9 @@ enum chungvator_type {
 };
 
 /* ---- A session: four arrays, 5,712 bytes. ----
- * Rows past a count, and their names, are nobody's: nothing reads them. They stay as they are until a new stream or a
- * new request takes the next one. A removal moves the later rows up, and leaves what stood in the last one. */
+ * A start writes all of it. Rows past a count, and their names, are blank: zeros. A removal moves the later rows up,
+ * and blanks the last one. Nothing reads a row past its count: what a host writes there stays until a new stream or a
+ * new request takes the row. */
 enum { CHUNGVATOR_PLACES = 16, CHUNGVATOR_NAME_BYTES = 128 };
 
 /* facts[..] */

@@ -186,7 +186,7 @@ impl ServerSession {
     }
 
     /// The same, to be written. Whatever is written is safe: arrays that hold no session are refused with 15. Rows past
-    /// a count are nobody's, and stay as they are until a new stream or request takes them.
+    /// a count are blank. What is written there stays, and is not read, until a new stream or request takes the row.
     pub fn arrays_mut(&mut self) -> &mut ffi::Session {
         &mut self.arrays
     }

@@ -1,9 +1,10 @@
-//! A session that the host damaged gets 15 from every call, and stays as it was, byte for byte.
+//! A session that the host damaged gets 15 from every call, and stays as it was, byte for byte. And a place that is freed
+//! is blank, and a start leaves nothing of what stood there.
 
 #[path = "../examples/client/mod.rs"]
 mod client;
 
-use chungvator::ffi::Session;
+use chungvator::ffi::{Answer, Session};
 use chungvator::places::{fact, request, stream};
 use chungvator::ServerSessionError::BadSession;
 use chungvator::{
@@ -142,5 +143,51 @@ fn what_is_no_damage_is_not_refused() {
         };
         assert!(session.handle_message(&message, 0, &mut FULL.clone()).is_ok(), "{what}: createStream");
         assert_eq!(session.arrays().facts[fact::NEXT_STREAM], 5, "{what}");
+    }
+}
+
+/// Every row and name past the counts is zeros.
+fn blank_behind(session: &ServerSession) {
+    let s = session.arrays();
+    let streams = s.facts[fact::STREAM_COUNT] as usize;
+    let requests = s.facts[fact::REQUEST_COUNT] as usize;
+    assert!(s.streams[streams..].iter().all(|row| *row == [0; 4]), "streams past {streams}");
+    assert!(s.requests[requests..].iter().all(|row| *row == [0; 6]), "requests past {requests}");
+    assert!(s.names[2 + streams..18].iter().all(|name| *name == [0; 128]), "keys past {streams}");
+    assert!(s.names[18 + requests..].iter().all(|name| *name == [0; 128]), "names past {requests}");
+}
+
+#[test]
+fn a_place_that_is_freed_is_blank() {
+    let mut session = busy();
+    blank_behind(&session);
+    for gone in [1, 3, 2] {
+        send(&mut session, 0, &client::delete_stream(gone));
+        blank_behind(&session);
+    }
+    session.reject_request(RequestId(3), b"", b"", 0, &mut FULL.clone()).unwrap();
+    blank_behind(&session);
+    session.accept_request(RequestId(4), 0, &mut FULL.clone()).unwrap();
+    blank_behind(&session);
+    assert_eq!(session.arrays().facts[fact::STREAM_COUNT], 0);
+    assert_eq!(session.arrays().facts[fact::REQUEST_COUNT], 0);
+}
+
+#[test]
+fn a_start_leaves_nothing_of_what_stood_there() {
+    let start = |arrays: &mut Session, chunk_size, out: &mut [u8]| {
+        arrays.start(chunk_size, 2_500_000, 2_500_000, false, b"FMS/3,0,1,1233", 7, out, &mut Answer::new())
+    };
+    // Done, refused with 14, and refused with 12: what stood there before makes no difference.
+    for (chunk_size, room, code) in [(4096, 71, 0), (0, 71, 14), (4096, 70, 12)] {
+        let mut full = busy().arrays().clone();
+        full.streams.fill([u64::MAX; 4]);
+        full.requests.fill([u64::MAX; 6]);
+        full.names.fill([0xFF; 128]);
+        let mut empty = busy().arrays().clone();
+        assert_eq!(start(&mut full, chunk_size, &mut FULL.clone()[..room]), code);
+        assert_eq!(start(&mut empty, chunk_size, &mut FULL.clone()[..room]), code);
+        assert!(full == empty, "a start with {code}");
+        blank_behind(&ServerSession::from(full));
     }
 }

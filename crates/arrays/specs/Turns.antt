@@ -15,7 +15,7 @@ use Rattle.session.specs.declared.decision.Event.the-variants.{NoEvent}
 use Rattle.session.specs.declared.session.Session.{Session}
 use Rattle.replies.specs.declared.answer.Answer.{Answer}
 use Rattle.image.specs.Image.{Arrays, readableAt, sessionAt}
-use Rattle.written.specs.Kept.{keptAt}
+use Rattle.written.specs.Kept.{imageOf, keptAt}
 use Rattle.parts.specs.Parts.{Shown}
 use Rattle.parts.specs.Told.{toldOf}
 
@@ -50,6 +50,6 @@ turned also before r = ((kept also before (r .0), told (r .0)), r .1)
 unfoldable pub hosted : ℕ → Arrays → List ℕ → (Session → Answer × List ℕ) → (Arrays × (ℕ × Shown)) × List ℕ
 hosted also before out call = pick (readableAt (before .0) (before .1 .0) (before .1 .1 .0)) (turned also before (call (sessionIn before))) ((before, unread), out)
 
--- a start reads nothing of the arrays; it is written also where it is refused
-unfoldable pub started : Arrays → Answer × List ℕ → (Arrays × (ℕ × Shown)) × List ℕ
-started before a = ((keptAt before (a .0 .session), told (a .0)), a .1)
+-- a start reads nothing of the arrays; all of them are written, also where it is refused
+unfoldable pub started : Answer × List ℕ → (Arrays × (ℕ × Shown)) × List ℕ
+started a = ((imageOf (a .0 .session), told (a .0)), a .1)

@@ -1,4 +1,4 @@
-// The start of a session: facts and two names are written, and no row.
+// The start of a session: all of the arrays is written.
 use answers::start_records;
 use parts::is_set;
 use parts::tell_quiet;
@@ -7,15 +7,12 @@ use text::empty_name;
 use text::read_name;
 use wishes::Outcome;
 ghost use mathlib.Core.Path.{_≡_};
-ghost use mathlib.Core.List.{_∷_, _++_};
-ghost use lib.ListN.{length};
 ghost use Rattle.text.specs.Names.{emptyName};
 ghost use Rattle.metadata.specs.Metadata.{noMetadata};
 ghost use Rattle.session.specs.State.{freshSession};
 ghost use Rattle.session.specs.declared.decision.Event.the-variants.{NoEvent};
 ghost use Rattle.calls.specs.Calls.{badConfig, starting};
-ghost use Rattle.image.specs.Image.{keysOf, titlesOf};
-ghost use Rattle.written.specs.Kept.{factsOf, keptAt};
+ghost use Rattle.written.specs.Kept.{factsOf, imageOf};
 ghost use Rattle.parts.specs.Told.{isSet, toldOf};
 ghost use Rattle.arrays.specs.Turns.{started};
 
@@ -31,42 +28,36 @@ fn config_bad(chunk: u32, version: &[u8]) -> bool
     128 < version.len()
 }
 
-fn fresh_names(names: &mut [[u8; 128]], version: [u8; 128], app: [u8; 128])
-    requires { ⌜ length (now names) ≡ 34 ⌝ }
-    ensures { λ r. ⌜ now (names .exit) ≡ version ∷ app ∷ (keysOf (now (names .entry)) ++ titlesOf (now (names .entry))) ⌝ }
-{
-    names[0] = version;
-    names[1] = app;
-}
-
 fn fresh_facts(start: u64, version: Name) -> [u64; 10]
     ensures { λ r. ⌜ r ≡ factsOf (freshSession start version) ⌝ }
 {
     [start, version.len as u64, 0, 0, 0, 0, 1, 0, 0, 0]
 }
 
+// A fresh session has sixteen blank places in each table.
 fn write_fresh(
     facts: &mut [u64; 10],
-    streams: &[[u64; 4]; 16],
-    requests: &[[u64; 6]; 16],
+    streams: &mut [[u64; 4]; 16],
+    requests: &mut [[u64; 6]; 16],
     names: &mut [[u8; 128]; 34],
     start: u64,
     version: Name,
 )
-    ensures { λ r. ⌜ (now (facts .exit), (now (streams .entry), (now (requests .entry), now (names .exit)))) ≡ keptAt (now (facts .entry), (now (streams .entry), (now (requests .entry), now (names .entry)))) (freshSession start version) ⌝ }
+    ensures { λ r. ⌜ (now (facts .exit), (now (streams .exit), (now (requests .exit), now (names .exit)))) ≡ imageOf (freshSession start version) ⌝ }
 {
-    let empty = empty_name();
-    let app = empty.bytes;
     let bytes = version.bytes;
     let all = fresh_facts(start, version);
     *facts = all;
-    fresh_names(names, bytes, app);
+    *streams = [[0; 4]; 16];
+    *requests = [[0; 6]; 16];
+    *names = [[0; 128]; 34];
+    names[0] = bytes;
 }
 
 fn tell_fresh(
     facts: &mut [u64; 10],
-    streams: &[[u64; 4]; 16],
-    requests: &[[u64; 6]; 16],
+    streams: &mut [[u64; 4]; 16],
+    requests: &mut [[u64; 6]; 16],
     names: &mut [[u8; 128]; 34],
     numbers: &mut [u64; 16],
     described: &mut [[u64; 11]; 2],
@@ -76,7 +67,7 @@ fn tell_fresh(
     outcome: Outcome,
     count: usize,
 ) -> u32
-    ensures { λ r. ⌜ ((now (facts .exit), (now (streams .entry), (now (requests .entry), now (names .exit)))) ≡ keptAt (now (facts .entry), (now (streams .entry), (now (requests .entry), now (names .entry)))) (freshSession start version)) × ((r, (now (numbers .exit), (now (described .exit), now (words .exit)))) ≡ toldOf outcome NoEvent emptyName emptyName noMetadata count) ⌝ }
+    ensures { λ r. ⌜ ((now (facts .exit), (now (streams .exit), (now (requests .exit), now (names .exit)))) ≡ imageOf (freshSession start version)) × ((r, (now (numbers .exit), (now (described .exit), now (words .exit)))) ≡ toldOf outcome NoEvent emptyName emptyName noMetadata count) ⌝ }
 {
     write_fresh(facts, streams, requests, names, start, version);
     tell_quiet(numbers, described, words, outcome, count)
@@ -99,7 +90,7 @@ pub fn start_in(
     described: &mut [[u64; 11]; 2],
     words: &mut [[u8; 128]; 3],
 ) -> u32
-    ensures { λ r. ⌜ (((now (facts .exit), (now (streams .exit), (now (requests .exit), now (names .exit)))), (r, (now (numbers .exit), (now (described .exit), now (words .exit))))), now (out .exit)) ≡ started (now (facts .entry), (now (streams .entry), (now (requests .entry), now (names .entry)))) (starting «chunk_size» «window_ack_size» «peer_bandwidth» (isSet «on_bw_done») (now («fms_version» .entry)) clock (now (out .entry))) ⌝ }
+    ensures { λ r. ⌜ (((now (facts .exit), (now (streams .exit), (now (requests .exit), now (names .exit)))), (r, (now (numbers .exit), (now (described .exit), now (words .exit))))), now (out .exit)) ≡ started (starting «chunk_size» «window_ack_size» «peer_bandwidth» (isSet «on_bw_done») (now («fms_version» .entry)) clock (now (out .entry))) ⌝ }
 {
     let empty = empty_name();
     if config_bad(chunk_size, fms_version) {

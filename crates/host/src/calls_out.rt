@@ -159,7 +159,7 @@ pub extern "C" fn chungvator_start(
     described: &mut [[u64; 11]; 2],
     words: &mut [[u8; 128]; 3],
 ) -> u32
-    ensures { λ r. ⌜ (((now (facts .exit), (now (streams .exit), (now (requests .exit), now (names .exit)))), (r, (now (numbers .exit), (now (described .exit), now (words .exit))))), now (out .exit)) ≡ started (now (facts .entry), (now (streams .entry), (now (requests .entry), now (names .entry)))) (starting «chunk_size» «window_ack_size» «peer_bandwidth» (isSet «on_bw_done») (now («fms_version» .entry)) clock (now (out .entry))) ⌝ }
+    ensures { λ r. ⌜ (((now (facts .exit), (now (streams .exit), (now (requests .exit), now (names .exit)))), (r, (now (numbers .exit), (now (described .exit), now (words .exit))))), now (out .exit)) ≡ started (starting «chunk_size» «window_ack_size» «peer_bandwidth» (isSet «on_bw_done») (now («fms_version» .entry)) clock (now (out .entry))) ⌝ }
 {
     start_in(
         facts,

@@ -132,7 +132,7 @@ module _ (facts : List ℕ) (streams requests names : List (List ℕ)) (shape : 
   module _ (g : Stream → List ℕ) (l : List (List ℕ)) (hl : length l ≡ 16) (back : map g ts ≡ take n l) where
     of-streams :
         (effect : Effect) (e : Stream) (r : Request)
-        → edited (streamEdit effect (placeIn streamNumber (e .id .0) ts)) n (g e) l ≡ onto (map g (streamsOf (appliedBy effect s e r))) l
+        → edited (g noStream) (streamEdit effect (placeIn streamNumber (e .id .0) ts)) n (g e) l ≡ onto (map g (streamsOf n (appliedBy effect s e r))) l
     unfolding sessionAt withStream withChanged withoutStream withRequest withoutRequest
     of-streams Nothing e r = kept-same g noStream ts l n hl (says .stream-count) ts-length back
     of-streams StreamMade e r = kept-add g noStream ts l n hl (says .stream-count) ts-length back e
@@ -147,7 +147,7 @@ module _ (facts : List ℕ) (streams requests names : List (List ℕ)) (shape : 
   module _ (g : Request → List ℕ) (l : List (List ℕ)) (hl : length l ≡ 16) (back : map g rs ≡ take m l) where
     of-requests :
         (effect : Effect) (e : Stream) (r : Request)
-        → edited (requestEdit effect (placeIn requestNumber (r .id .0) rs)) m (g r) l ≡ onto (map g (requestsOf (appliedBy effect s e r))) l
+        → edited (g noRequest) (requestEdit effect (placeIn requestNumber (r .id .0) rs)) m (g r) l ≡ onto (map g (requestsOf m (appliedBy effect s e r))) l
     unfolding sessionAt withStream withChanged withoutStream withRequest withoutRequest
     of-requests Nothing e r = kept-same g noRequest rs l m hl (says .request-count) rs-length back
     of-requests StreamMade e r = kept-same g noRequest rs l m hl (says .request-count) rs-length back

@@ -1,7 +1,7 @@
 -- An edit of a column of the arrays, rows or names, leaves what is kept of the table after the change.
 use mathlib.Core.Path.{_≡_, refl, sym, ap, _∙_}
 use mathlib.Core.Logic.{_⊎_, inl, inr}
-use Prim.Native.Nat.{ℕ, zero, suc, _+_, _-_, _≤_, _<_, min}
+use Prim.Native.Nat.{ℕ, zero, suc, _+_, _-_, _≤_, _<_, max, min}
 use native.Mathlib.Numerals.{add-one}
 use native.Mathlib.Omega.{arith}
 use mathlib.Core.Bool.{Bool, true, false}
@@ -9,7 +9,7 @@ use mathlib.Core.List.{List, [], _∷_, _++_, map, append-assoc, append-nil}
 use mathlib.Core.Option.{Option, some, none}
 use lib.Dec.{eqb, leb}
 use lib.ListN.{List·getD-append, drop, getD, length, length-append, length-drop, length-map, length-replicate, length-set, replicate, set, take, take-append-drop}
-use lib.Seq.{append-snoc, drop-cons, length-take-le, set-append-left, set-at, set-out, set-split, take-all, take-append-add, take-append-le, take-at, take-set-lt, take-take}
+use lib.Seq.{append-snoc, drop-at, length-take-le, set-append-left, set-at, set-out, set-split, take-all, take-append-add, take-append-le, take-at, take-set-lt, take-take}
 use borrow.Author.Tests.{eq-eqb, le-leb, lt-leb, ne-eqb}
 use Rattle.numbers.specs.Choose.{pick}
 use Rattle.numbers.proofs.ChooseLaws.{pick-eq}
@@ -44,7 +44,7 @@ module _ {A : Type 0} (number : A → ℕ) (id : ℕ) where
 
 -- ---- a map goes through every edit
 module _ {A B : Type 0} (g : A → B) where
-  map-append : (xs ys : List A) → map g (xs ++ ys) ≡ map g xs ++ map g ys
+  pub map-append : (xs ys : List A) → map g (xs ++ ys) ≡ map g xs ++ map g ys
   map-append [] ys = refl
   map-append (x ∷ xs) ys = ap (λ (t : List B). g x ∷ t) (map-append xs ys)
 
@@ -53,7 +53,7 @@ module _ {A B : Type 0} (g : A → B) where
   map-take (suc n) [] = refl
   map-take (suc n) (x ∷ xs) = ap (λ (t : List B). g x ∷ t) (map-take n xs)
 
-  map-drop : (n : ℕ) (xs : List A) → map g (drop n xs) ≡ drop n (map g xs)
+  pub map-drop : (n : ℕ) (xs : List A) → map g (drop n xs) ≡ drop n (map g xs)
   map-drop zero xs = refl
   map-drop (suc n) [] = refl
   map-drop (suc n) (x ∷ xs) = map-drop n xs
@@ -84,17 +84,26 @@ module _ {A B : Type 0} (g : A → B) (blank : A) (t : List A) (l : List B) (n :
   onto-same : (k : ℕ) → k ≤ 16 → onto (take k l) l ≡ l
   onto-same k h = onto-some k (take k l) (length-take-le k l (omega (arith, hl))) ∙ take-append-drop k l
 
-  pub kept-same : l ≡ onto (map g (take n (t ++ replicate (16 - n) blank))) l
-  kept-same = sym (ap (λ (u : List A). onto (map g u) l) front ∙ ap (λ (u : List B). onto u l) back ∙ onto-same n hn)
+  stays : l ≡ onto (map g (take n whole)) l
+  stays = sym (ap (λ (u : List A). onto (map g u) l) front ∙ ap (λ (u : List B). onto u l) back ∙ onto-same n hn)
+
+  -- ---- none; what was in use, or is now, is as many
+  most : max n n ≡ n
+  most = omega arith
+
+  pub kept-same : l ≡ onto (map g (take (max n n) (t ++ replicate (16 - n) blank))) l
+  kept-same = stays ∙ ap (λ (k : ℕ). onto (map g (take k whole)) l) (sym most)
 
   -- ---- one more
-  pub kept-add : (e : A) → set l n (g e) ≡ onto (map g (take (oneMore n) (set (t ++ replicate (16 - n) blank) n e))) l
+  pub kept-add : (e : A) → set l n (g e) ≡ onto (map g (take (max n (oneMore n)) (set (t ++ replicate (16 - n) blank) n e))) l
   kept-add e = sym (elim (le-or-lt 16 n) [
     | inl h ↦
-        let more : oneMore n ≡ n = simp (le-leb 16 n h) in
-        (λ i. onto (map g (take (more i) (set-out whole n e (omega (arith, whole-length, h)) i))) l) ∙ sym kept-same ∙ sym (set-out l n (g e) (omega (arith, hl, h)))
+        let one : oneMore n ≡ n = simp (le-leb 16 n h) in
+        let more : max n (oneMore n) ≡ n = omega (arith, one) in
+        (λ i. onto (map g (take (more i) (set-out whole n e (omega (arith, whole-length, h)) i))) l) ∙ sym stays ∙ sym (set-out l n (g e) (omega (arith, hl, h)))
     | inr h ↦
-        let more : oneMore n ≡ n + 1 = simp (lt-leb 16 n h) in
+        let next : oneMore n ≡ n + 1 = simp (lt-leb 16 n h) in
+        let more : max n (oneMore n) ≡ n + 1 = omega (arith, next) in
         let k : ℕ = 15 - n in
         let m : 16 - n ≡ suc k = omega (arith, h) in
         let placed : set whole n e ≡ t ++ e ∷ replicate k blank = ap (λ (j : ℕ). set (t ++ replicate j blank) n e) m ∙ set-at t blank (replicate k blank) e n ht in
@@ -118,8 +127,8 @@ module _ {A B : Type 0} (g : A → B) (blank : A) (t : List A) (l : List B) (n :
     lost id p f = ap (look number id) front ∙ f .1
 
     -- ---- another one in its place
-    pub kept-put : (e : A) → edited (Put (placeIn number (number e) t)) n (g e) l ≡ onto (map g (take n (changed number e n (t ++ replicate (16 - n) blank)))) l
-    kept-put e = sym (elim (place-cases number (number e) t) [
+    pub kept-put : (e : A) → edited (g blank) (Put (placeIn number (number e) t)) n (g e) l ≡ onto (map g (take (max n n) (changed number e n (t ++ replicate (16 - n) blank)))) l
+    kept-put e = sym (ap (λ (k : ℕ). onto (map g (take k (changed number e n whole))) l) most ∙ elim (place-cases number (number e) t) [
       | inl f ↦
           let p : ℕ = placeIn number (number e) t in
           let h : p < n = omega (arith, f .0, ht) in
@@ -129,44 +138,40 @@ module _ {A B : Type 0} (g : A → B) (blank : A) (t : List A) (l : List B) (n :
           ∙ onto-some n (set (take n l) p (g e)) (length-set (take n l) p (g e) ∙ length-take-le n l (omega (arith, hl, hn)))
           ∙ sym (set-append-left (take n l) (drop n l) p (g e) (omega (arith, h, length-take-le n l (omega (arith, hl, hn)))))
           ∙ ap (λ (u : List B). set u p (g e)) (take-append-drop n l)
-          ∙ put-in n (g e) l p h
+          ∙ put-in (g blank) n (g e) l p h
       | inr f ↦
           ap (λ (u : List A). onto (map g (take n u)) l) (sym (changed-missing number whole n n count e (lost (number e) (placeIn number (number e) t) f)))
-          ∙ sym kept-same ∙ put-out n (g e) l (placeIn number (number e) t) (omega (arith, f .0, ht))
+          ∙ sym stays ∙ put-out (g blank) n (g e) l (placeIn number (number e) t) (omega (arith, f .0, ht))
     ])
 
     -- ---- one gone
-    pub kept-cut : (id : ℕ) (x : B) → edited (Cut (placeIn number id t)) n x l ≡ onto (map g (take (n - 1) (removed number blank id n (t ++ replicate (16 - n) blank)))) l
+    pub kept-cut : (id : ℕ) (x : B) → edited (g blank) (Cut (placeIn number id t)) n x l ≡ onto (map g (take (max n (n - 1)) (removed number blank id n (t ++ replicate (16 - n) blank)))) l
     unfolding shifted
-    kept-cut id x = sym (elim (place-cases number id t) [
-      | inl f ↦
-          let p : ℕ = placeIn number id t in
-          let h : p < n = omega (arith, f .0, ht) in
-          let rest : List A = drop (p + 1) (take n whole) in
-          let some-left : length (take p whole ++ rest) ≡ n - 1 =
-          omega (arith, length-append (take p whole) rest, length-take-le p whole (omega (arith, whole-length, h, hn)), length-drop (p + 1) (take n whole), length-take-le n whole (omega (arith, whole-length, hn)), h) in
-          let left : take (n - 1) (shifted blank p n whole) ≡ take p t ++ drop (p + 1) t =
-          ap (take (n - 1)) (sym (append-assoc (take p whole) rest (blank ∷ drop n whole)))
-          ∙ take-at (take p whole ++ rest) (blank ∷ drop n whole) (n - 1) some-left
-          ∙ (λ i. take-append-le p t (replicate (16 - n) blank) (omega (arith, f .0)) i ++ drop (p + 1) (front i)) in
-          let new : map g (take p t ++ drop (p + 1) t) ≡ take p l ++ drop (p + 1) (take n l) =
-          map-append g (take p t) (drop (p + 1) t)
-          ∙ (λ i. (map-take g p t ∙ ap (take p) back ∙ take-take p n l (omega (arith, h))) i ++ (map-drop g (p + 1) t ∙ ap (drop (p + 1)) back) i) in
-          let long : length (take p l ++ drop (p + 1) (take n l)) ≡ n - 1 =
-          omega (arith, length-append (take p l) (drop (p + 1) (take n l)), length-take-le p l (omega (arith, hl, h, hn)), length-drop (p + 1) (take n l), length-take-le n l (omega (arith, hl, hn)), h) in
-          let z : suc (n - 1) ≡ n = omega (arith, h) in
-          ap (λ (u : List A). onto (map g (take (n - 1) u)) l) (sym (removed-at number whole n n count id p blank (stands id p blank f) blank (shifted blank p n whole) refl))
-          ∙ ap (λ (u : List A). onto (map g u) l) left
-          ∙ ap (λ (u : List B). onto u l) new
-          ∙ onto-some (n - 1) (take p l ++ drop (p + 1) (take n l)) long
-          ∙ ap (λ (u : List B). (take p l ++ drop (p + 1) (take n l)) ++ u) (drop-cons l (n - 1) x (omega (arith, hl, h, hn)) ∙ ap (λ (j : ℕ). getD l (n - 1) x ∷ drop j l) z)
-          ∙ append-assoc (take p l) (drop (p + 1) (take n l)) (getD l (n - 1) x ∷ drop n l)
-          ∙ cut-in n x l p (shifted (getD l (n - 1) x) p n l) x refl h (omega (arith, hl, hn))
-      | inr f ↦
-          let left : take (n - 1) whole ≡ take (n - 1) t = take-append-le (n - 1) t (replicate (16 - n) blank) (omega (arith, ht)) in
-          ap (λ (u : List A). onto (map g (take (n - 1) u)) l) (sym (removed-missing number whole n n count id blank (lost id (placeIn number id t) f)))
-          ∙ ap (λ (u : List A). onto (map g u) l) left
-          ∙ ap (λ (u : List B). onto u l) (map-take g (n - 1) t ∙ ap (take (n - 1)) back ∙ take-take (n - 1) n l (omega arith))
-          ∙ onto-same (n - 1) (omega (arith, hn))
-          ∙ cut-out n x l (placeIn number id t) (omega (arith, f .0, ht))
-    ])
+    kept-cut id x =
+        let least : max n (n - 1) ≡ n = omega arith in
+        sym (ap (λ (k : ℕ). onto (map g (take k (removed number blank id n whole))) l) least ∙ elim (place-cases number id t) [
+          | inl f ↦
+              let p : ℕ = placeIn number id t in
+              let h : p < n = omega (arith, f .0, ht) in
+              let rest : List A = drop (p + 1) t in
+              let all : shifted blank p n whole ≡ (take p t ++ (rest ++ (blank ∷ []))) ++ replicate (16 - n) blank =
+              (λ i. take-append-le p t (replicate (16 - n) blank) (omega (arith, f .0)) i ++ (drop (p + 1) (front i) ++ blank ∷ drop-at t (replicate (16 - n) blank) n ht i))
+              ∙ sym (append-assoc (take p t) (rest ++ (blank ∷ [])) (replicate (16 - n) blank) ∙ ap (λ (u : List A). take p t ++ u) (append-snoc rest blank (replicate (16 - n) blank))) in
+              let many : length (take p t ++ (rest ++ (blank ∷ []))) ≡ n =
+              omega (arith, length-append (take p t) (rest ++ (blank ∷ [])), length-append rest (blank ∷ []), length-take-le p t (omega (arith, f .0)), length-drop (p + 1) t, f .0, ht) in
+              let new : map g (take p t ++ (rest ++ (blank ∷ []))) ≡ take p l ++ (drop (p + 1) (take n l) ++ (g blank ∷ [])) =
+              map-append g (take p t) (rest ++ (blank ∷ []))
+              ∙ (λ i. (map-take g p t ∙ ap (take p) back ∙ take-take p n l (omega (arith, h))) i ++ (map-append g rest (blank ∷ []) ∙ ap (λ (u : List B). u ++ (g blank ∷ [])) (map-drop g (p + 1) t ∙ ap (drop (p + 1)) back)) i) in
+              let long : length (take p l ++ (drop (p + 1) (take n l) ++ (g blank ∷ []))) ≡ n = ap length (sym new) ∙ length-map (take p t ++ (rest ++ (blank ∷ []))) g ∙ many in
+              ap (λ (u : List A). onto (map g (take n u)) l) (sym (removed-at number whole n n count id p blank (stands id p blank f) blank (shifted blank p n whole) refl) ∙ all)
+              ∙ ap (λ (u : List A). onto (map g u) l) (take-at (take p t ++ (rest ++ (blank ∷ []))) (replicate (16 - n) blank) n many)
+              ∙ ap (λ (u : List B). onto u l) new
+              ∙ onto-some n (take p l ++ (drop (p + 1) (take n l) ++ (g blank ∷ []))) long
+              ∙ append-assoc (take p l) (drop (p + 1) (take n l) ++ (g blank ∷ [])) (drop n l)
+              ∙ ap (λ (u : List B). take p l ++ u) (append-snoc (drop (p + 1) (take n l)) (g blank) (drop n l))
+              ∙ cut-in (g blank) n x l p (shifted (g blank) p n l) refl h
+          | inr f ↦
+              ap (λ (u : List A). onto (map g (take n u)) l) (sym (removed-missing number whole n n count id blank (lost id (placeIn number id t) f)))
+              ∙ sym stays
+              ∙ cut-out (g blank) n x l (placeIn number id t) (omega (arith, f .0, ht))
+        ])

@@ -1,20 +1,21 @@
 -- What the code does, step by step.
 use mathlib.Core.Path.{_≡_, refl, sym, ap, _∙_}
 use mathlib.Core.Logic.{inl, inr}
-use Prim.Native.Nat.{ℕ, zero, suc, _+_, _-_, _≤_, _<_}
+use Prim.Native.Nat.{ℕ, suc, _+_, _≤_, _<_}
 use native.Mathlib.Omega.{arith}
 use mathlib.Core.List.{List, [], _∷_, _++_, append-assoc, append-nil}
 use lib.Dec.{eqb, ltb}
 use lib.ListN.{drop, drop-of-length-le, getD, length, length-append, length-drop, length-set, length-take, set, take}
-use lib.Seq.{drop-at, getD-set-other, length-take-le, set-getD, set-out, take-at}
+use lib.Seq.{drop-at, length-take-le, set-out, take-at}
 use borrow.Author.Tests.{eq-eqb, le-ltb, lt-ltb, ne-eqb}
 use Rattle.numbers.specs.Choose.{pick}
 use Rattle.numbers.proofs.PatternLaws.{le-or-lt}
+use Rattle.tables.specs.Entries.{noRequest, noStream}
 use Rattle.tables.specs.Tables.{shifted}
-use Rattle.tables.proofs.TablesLaws.{next-entry, no-entry, shift-done, shift-next}
+use Rattle.tables.proofs.TablesLaws.{next-entry, no-entry}
 use Rattle.session.specs.declared.changes.Change.{Change}
 use Rattle.image.specs.Image.{Arrays, cell, keysOf, titlesOf}
-use Rattle.written.specs.Kept.{keyBytes, requestRow, streamRow, titleBytes}
+use Rattle.written.specs.Kept.{blankBytes, keyBytes, requestRow, streamRow, titleBytes}
 use Rattle.written.specs.Edits.{appAfter, appliedAt, edited, editedBy, factsAfter, inUse, namesAfter, placeIn, requestEdit, requestPlace, rowId, streamEdit, streamPlace}
 use Rattle.written.specs.declared.edits.Edit.{Edit}
 use Rattle.written.specs.declared.edits.Edit.the-variants.{Same, Add, Put, Cut}
@@ -47,58 +48,40 @@ module _ {A : Type 0} (number : A → ℕ) (id : ℕ) (l : List A) (n i r : ℕ)
       let z : placeIn number id (drop i (take n l)) ≡ 0 = ap (placeIn number id) (no-entry l n i h) in
       omega (arith, so, z)
 
--- ---- later ones moved up as far as i; the last one stays
-module _ {A : Type 0} (d : A) (n : ℕ) (k l : List A) (i : ℕ) (r : List A) (last : getD l (n - 1) d ≡ getD k (n - 1) d) (so : shifted (getD k (n - 1) d) i n l ≡ r) (g : n ≤ length l) where
-  pub last-next : i + 1 < n → getD (set l i (getD l (i + 1) d)) (n - 1) d ≡ getD k (n - 1) d
-  last-next h = getD-set-other l i (n - 1) (getD l (i + 1) d) d (λ e. omega (arith, e, h)) ∙ last
-
-  pub moved-next : i + 1 < n → shifted (getD k (n - 1) d) (i + 1) n (set l i (getD l (i + 1) d)) ≡ r
-  moved-next h = shift-next (getD k (n - 1) d) n l i d r so h g
-
-  pub moved-done : n ≡ i + 1 → l ≡ r
-  moved-done h =
-      let z : i ≡ n - 1 = omega (arith, h) in
-      sym (set-getD l i d) ∙ shift-done (getD k (n - 1) d) n l i r (getD l i d) so (ap (λ (j : ℕ). getD l j d) z ∙ last) h g
-
 -- ---- an edit, by what the code found
-any-default : {A : Type 0} (l : List A) (i : ℕ) (x y : A) → i < length l → getD l i x ≡ getD l i y
-any-default [] i x y h = absurd (omega arith)
-any-default (z ∷ l) zero x y h = refl
-any-default (z ∷ l) (suc i) x y h = any-default l i x y (omega arith)
-
 shifted-length : {A : Type 0} (y : A) (p n : ℕ) (l : List A) → p < n → n ≤ length l → length (shifted y p n l) ≡ length l
 unfolding shifted
 shifted-length y p n l h g =
     omega (arith, length-append (take p l) (drop (p + 1) (take n l) ++ y ∷ drop n l), length-append (drop (p + 1) (take n l)) (y ∷ drop n l), length-take-le p l (omega arith), length-take-le n l g, length-drop (p + 1) (take n l), length-drop n l)
 
-module _ {A : Type 0} (n : ℕ) (x : A) (l : List A) where
+module _ {A : Type 0} (blank : A) (n : ℕ) (x : A) (l : List A) where
   pub add-full : length l ≤ n → l ≡ set l n x
   add-full h = sym (set-out l n x h)
 
   module _ (p : ℕ) where
-    pub put-in : p < n → set l p x ≡ edited (Put p) n x l
+    pub put-in : p < n → set l p x ≡ edited blank (Put p) n x l
     put-in h = simp (lt-ltb p n h)
 
-    pub put-out : n ≤ p → l ≡ edited (Put p) n x l
+    pub put-out : n ≤ p → l ≡ edited blank (Put p) n x l
     put-out h = simp (le-ltb p n h)
 
-    pub cut-in : (r : List A) (d : A) → r ≡ shifted (getD l (n - 1) d) p n l → p < n → n ≤ length l → r ≡ edited (Cut p) n x l
-    cut-in r d e h g = e ∙ ap (λ (y : A). shifted y p n l) (any-default l (n - 1) d x (omega arith)) ∙ simp (lt-ltb p n h)
+    pub cut-in : (r : List A) → r ≡ shifted blank p n l → p < n → r ≡ edited blank (Cut p) n x l
+    cut-in r e h = e ∙ simp (lt-ltb p n h)
 
-    pub cut-out : n ≤ p → l ≡ edited (Cut p) n x l
+    pub cut-out : n ≤ p → l ≡ edited blank (Cut p) n x l
     cut-out h = simp (le-ltb p n h)
 
 -- an edit keeps the length
-pub edited-length : {A : Type 0} (e : Edit) (n : ℕ) (x : A) (l : List A) → n ≤ length l → length (edited e n x l) ≡ length l
-edited-length Same n x l h = refl
-edited-length Add n x l h = length-set l n x
-edited-length (Put p) n x l h = elim (le-or-lt n p) [
-  | inl g ↦ ap length (sym (put-out n x l p g))
-  | inr g ↦ ap length (sym (put-in n x l p g)) ∙ length-set l p x
+pub edited-length : {A : Type 0} (blank : A) (e : Edit) (n : ℕ) (x : A) (l : List A) → n ≤ length l → length (edited blank e n x l) ≡ length l
+edited-length blank Same n x l h = refl
+edited-length blank Add n x l h = length-set l n x
+edited-length blank (Put p) n x l h = elim (le-or-lt n p) [
+  | inl g ↦ ap length (sym (put-out blank n x l p g))
+  | inr g ↦ ap length (sym (put-in blank n x l p g)) ∙ length-set l p x
 ]
-edited-length (Cut p) n x l h = elim (le-or-lt n p) [
-  | inl g ↦ ap length (sym (cut-out n x l p g))
-  | inr g ↦ ap length (sym (cut-in n x l p (shifted (getD l (n - 1) x) p n l) x refl g h)) ∙ shifted-length (getD l (n - 1) x) p n l g h
+edited-length blank (Cut p) n x l h = elim (le-or-lt n p) [
+  | inl g ↦ ap length (sym (cut-out blank n x l p g))
+  | inr g ↦ ap length (sym (cut-in blank n x l p (shifted blank p n l) refl g)) ∙ shifted-length blank p n l g h
 ]
 
 -- ---- the names: those of the streams, then those of the requests
@@ -147,10 +130,10 @@ module _
 
   pub applied-as :
       (row line facts : List ℕ) (streams requests names : List (List ℕ)) → row ≡ streamRow (c .stream) → line ≡ requestRow (c .request)
-      → facts ≡ factsAfter (c .effect) (c .request .name .len) (a .0) → streams ≡ edited e n row (a .1 .0) → requests ≡ edited f m line (a .1 .1 .0)
-      → names ≡ namesAfter (a .1 .1 .1) (appAfter (c .effect) (titleBytes (c .request)) (getD (a .1 .1 .1) 1 [])) (edited e n (keyBytes (c .stream)) (keysOf (a .1 .1 .1))) (edited f m (titleBytes (c .request)) (titlesOf (a .1 .1 .1)))
+      → facts ≡ factsAfter (c .effect) (c .request .name .len) (a .0) → streams ≡ edited (streamRow noStream) e n row (a .1 .0) → requests ≡ edited (requestRow noRequest) f m line (a .1 .1 .0)
+      → names ≡ namesAfter (a .1 .1 .1) (appAfter (c .effect) (titleBytes (c .request)) (getD (a .1 .1 .1) 1 [])) (edited blankBytes e n (keyBytes (c .stream)) (keysOf (a .1 .1 .1))) (edited blankBytes f m (titleBytes (c .request)) (titlesOf (a .1 .1 .1)))
       → _≡_ {A = Arrays} (facts, (streams, (requests, names))) (appliedAt a c)
   applied-as row line facts streams requests names kr kl k0 k1 k2 k3 =
       let z : _≡_ {A = Arrays} (facts, (streams, (requests, names))) (editedBy e f n m a c) =
-      λ i. (k0 i, ((k1 ∙ ap (λ (t : List ℕ). edited e n t (a .1 .0)) kr) i, ((k2 ∙ ap (λ (t : List ℕ). edited f m t (a .1 .1 .0)) kl) i, k3 i))) in
+      λ i. (k0 i, ((k1 ∙ ap (λ (t : List ℕ). edited (streamRow noStream) e n t (a .1 .0)) kr) i, ((k2 ∙ ap (λ (t : List ℕ). edited (requestRow noRequest) f m t (a .1 .1 .0)) kl) i, k3 i))) in
       z ∙ all-steps

@@ -4,3 +4,4 @@ pub mod ColumnLaws
 pub mod AppliedTheorems
 pub mod RoundTheorems
 pub mod TidyTheorems
+pub mod ImageTheorems

@@ -28,10 +28,10 @@ use Rattle.session.specs.declared.session.Session.{Session}
 use Rattle.written.proofs.RoundTheorems.{Tidy}
 
 -- ---- a table
-record Table {A : Type 0} (blank : A) (n : ℕ) (l : List A) : Type 0 where
-  blanks : l ≡ take n l ++ replicate (16 - n) blank
-  used : length (take n l) ≡ n
-  places : n ≤ 16
+pub record Table {A : Type 0} (blank : A) (n : ℕ) (l : List A) : Type 0 where
+  pub blanks : l ≡ take n l ++ replicate (16 - n) blank
+  pub used : length (take n l) ≡ n
+  pub places : n ≤ 16
 
 module _ {A : Type 0} (number : A → ℕ) where
   change-length : (y : A) (l : List A) → length (change number y l) ≡ length l
@@ -53,10 +53,10 @@ module _ {A : Type 0} (blank : A) where
 
 module _ {A : Type 0} (blank : A) (n : ℕ) (l : List A) where
   module _ (h : Table blank n l) where
-    behind : drop n l ≡ replicate (16 - n) blank
+    pub behind : drop n l ≡ replicate (16 - n) blank
     behind = ap (drop n) (h .blanks) ∙ drop-at (take n l) (replicate (16 - n) blank) n (h .used)
 
-    long : length l ≡ 16
+    pub long : length l ≡ 16
     long = ap length (h .blanks) ∙ omega (arith, length-append (take n l) (replicate (16 - n) blank), h .used, length-replicate (16 - n) blank, h .places)
 
     table-put : (number : A → ℕ) (y : A) → Table blank n (changed number y n l)
@@ -94,10 +94,10 @@ module _ {A : Type 0} (blank : A) (n : ℕ) (l : List A) where
 
 -- ---- a session
 module _ (s : Session) (h : Tidy s) where
-  streams-table : Table noStream (s .«stream_count») (s .streams)
+  pub streams-table : Table noStream (s .«stream_count») (s .streams)
   streams-table = record { blanks = h .streams; used = h .stream-count; places = h .stream-places }
 
-  requests-table : Table noRequest (s .«request_count») (s .requests)
+  pub requests-table : Table noRequest (s .«request_count») (s .requests)
   requests-table = record { blanks = h .requests; used = h .request-count; places = h .request-places }
 
 tidy-of : (s : Session) → Table noStream (s .«stream_count») (s .streams) → Table noRequest (s .«request_count») (s .requests) → Tidy s

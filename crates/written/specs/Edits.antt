@@ -3,6 +3,7 @@ use Prim.Native.Nat.{ℕ, suc, _-_, _%_, min}
 use mathlib.Core.List.{List, [], _∷_, _++_}
 use lib.Dec.{eqb, ltb}
 use lib.ListN.{getD, set, take}
+use Rattle.tables.specs.Entries.{noRequest, noStream}
 use Rattle.numbers.specs.Choose.{pick}
 use Rattle.tables.specs.Tables.{shifted}
 use Rattle.session.specs.State.{following, oneMore}
@@ -10,7 +11,7 @@ use Rattle.session.specs.declared.changes.Change.{Change}
 use Rattle.session.specs.declared.changes.Effect.{Effect}
 use Rattle.session.specs.declared.changes.Effect.the-variants.{Nothing, StreamMade, StreamSet, StreamRemoved, RequestFiled, ConnectFiled, ConnectAccepted, StreamAccepted, RequestRemoved}
 use Rattle.image.specs.Image.{Arrays, cell, keysOf, titlesOf}
-use Rattle.written.specs.Kept.{keyBytes, requestRow, streamRow, titleBytes}
+use Rattle.written.specs.Kept.{blankBytes, keyBytes, requestRow, streamRow, titleBytes}
 use Rattle.written.specs.declared.edits.Edit.{Edit}
 use Rattle.written.specs.declared.edits.Edit.the-variants.{Same, Add, Put, Cut}
 
@@ -22,12 +23,12 @@ placeIn number id (x ∷ xs) = pick (eqb (number x) id) 0 (suc (placeIn number i
 abbrev pub rowId : List ℕ → ℕ
 rowId row = cell row 0 % 4294967296
 
--- of a list whose first n are in use: one more behind them; another one at p; without that at p, and then the last of them stands twice
-abbrev pub edited : {A : Type 0} → Edit → ℕ → A → List A → List A
-edited Same n x l = l
-edited Add n x l = set l n x
-edited (Put p) n x l = pick (ltb p n) (set l p x) l
-edited (Cut p) n x l = pick (ltb p n) (shifted (getD l (n - 1) x) p n l) l
+-- of a list whose first n are in use: one more behind them; another one at p; without that at p, and a blank behind the later ones
+abbrev pub edited : {A : Type 0} → A → Edit → ℕ → A → List A → List A
+edited blank Same n x l = l
+edited blank Add n x l = set l n x
+edited blank (Put p) n x l = pick (ltb p n) (set l p x) l
+edited blank (Cut p) n x l = pick (ltb p n) (shifted blank p n l) l
 
 -- the edit of the streams, and of the requests; p is the place of the one in question
 abbrev pub streamEdit : Effect → ℕ → Edit
@@ -102,10 +103,10 @@ abbrev pub editedBy : Edit → Edit → ℕ → ℕ → Arrays → Change → Ar
 editedBy e f n m a c = (
   factsAfter (c .effect) (c .request .name .len) (a .0),
   (
-    edited e n (streamRow (c .stream)) (a .1 .0),
+    edited (streamRow noStream) e n (streamRow (c .stream)) (a .1 .0),
     (
-      edited f m (requestRow (c .request)) (a .1 .1 .0),
-      namesAfter (a .1 .1 .1) (appAfter (c .effect) (titleBytes (c .request)) (getD (a .1 .1 .1) 1 [])) (edited e n (keyBytes (c .stream)) (keysOf (a .1 .1 .1))) (edited f m (titleBytes (c .request)) (titlesOf (a .1 .1 .1))),
+      edited (requestRow noRequest) f m (requestRow (c .request)) (a .1 .1 .0),
+      namesAfter (a .1 .1 .1) (appAfter (c .effect) (titleBytes (c .request)) (getD (a .1 .1 .1) 1 [])) (edited blankBytes e n (keyBytes (c .stream)) (keysOf (a .1 .1 .1))) (edited blankBytes f m (titleBytes (c .request)) (titlesOf (a .1 .1 .1))),
     ),
   ),
 )

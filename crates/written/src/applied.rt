@@ -23,7 +23,7 @@ ghost use lib.ListN.{getD, length, set, take};
 ghost use Rattle.session.specs.State.{following};
 ghost use Rattle.image.specs.Image.{keysOf, titlesOf};
 ghost use Rattle.written.specs.Edits.{appAfter, appliedAt, edited, factsAfter, namesAfter, oneRequestLess, oneRequestMore, oneStreamMore, requestEdit, streamEdit};
-ghost use Rattle.written.specs.Kept.{requestRow, streamRow};
+ghost use Rattle.written.specs.Kept.{blankBytes, requestRow, streamRow};
 
 fn stream_row(stream: Stream) -> [u64; 4]
     ensures { λ r. ⌜ r ≡ streamRow stream ⌝ }
@@ -181,7 +181,7 @@ fn edit_parts(
     title: [u8; 128],
 )
     requires { ⌜ (length (now names) ≡ 34) × ((n ≤ 16) × (m ≤ 16)) ⌝ }
-    ensures { λ r. ⌜ now (names .exit) ≡ take 2 (now (names .entry)) ++ (edited e n key (keysOf (now (names .entry))) ++ edited f m title (titlesOf (now (names .entry)))) ⌝ }
+    ensures { λ r. ⌜ now (names .exit) ≡ take 2 (now (names .entry)) ++ (edited blankBytes e n key (keysOf (now (names .entry))) ++ edited blankBytes f m title (titlesOf (now (names .entry)))) ⌝ }
 {
     edit_names(&mut names[2..18], n, e, key);
     edit_names(&mut names[18..34], m, f, title);
@@ -198,13 +198,13 @@ fn edit_all_names(
     title: [u8; 128],
 )
     requires { ⌜ (length (now names) ≡ 34) × ((n ≤ 16) × (m ≤ 16)) ⌝ }
-    ensures { λ r. ⌜ now (names .exit) ≡ namesAfter (now (names .entry)) (appAfter effect title (getD (now (names .entry)) 1 [])) (edited e n key (keysOf (now (names .entry)))) (edited f m title (titlesOf (now (names .entry)))) ⌝ }
+    ensures { λ r. ⌜ now (names .exit) ≡ namesAfter (now (names .entry)) (appAfter effect title (getD (now (names .entry)) 1 [])) (edited blankBytes e n key (keysOf (now (names .entry)))) (edited blankBytes f m title (titlesOf (now (names .entry)))) ⌝ }
 {
     edit_parts(names, n, e, key, m, f, title);
     set_app(names, effect, title);
 }
 
-// Only what the change is about is written. Rows past the counts, and their names, stay as they are.
+// Only what the change is about is written, and a place that it frees is blank. Rows past the counts, and their names, stay as they are.
 pub fn apply_in(
     facts: &mut [u64; 10],
     streams: &mut [[u64; 4]; 16],

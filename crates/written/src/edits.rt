@@ -1,10 +1,11 @@
 // One edit of a table, made alike to its rows and to its names.
 ghost use mathlib.Core.Path.{_≡_};
-ghost use Prim.Native.Nat.{_-_, _%_, _≤_, _<_};
-ghost use mathlib.Core.List.{[]};
-ghost use lib.ListN.{getD, length, take};
+ghost use Prim.Native.Nat.{_%_, _≤_, _<_};
+ghost use lib.ListN.{length, take};
+ghost use Rattle.tables.specs.Entries.{noRequest, noStream};
 ghost use Rattle.tables.specs.Tables.{shifted};
 ghost use Rattle.written.specs.Edits.{edited, placeIn, rowId};
+ghost use Rattle.written.specs.Kept.{blankBytes, requestRow, streamRow};
 
 pub enum Edit {
     Same,
@@ -44,10 +45,10 @@ pub fn place_of_request(rows: &[[u64; 6]], n: usize, id: u32) -> usize
     i
 }
 
-// The later ones of the first n move up over the place p.
+// The later ones of the first n move up over the place p, and the last place is blank.
 fn shift_streams(rows: &mut [[u64; 4]], n: usize, p: usize)
     requires { ⌜ (p < n) × (n ≤ length (now rows)) ⌝ }
-    ensures { λ r. ⌜ now (rows .exit) ≡ shifted (getD (now (rows .entry)) (n - 1) []) p n (now (rows .entry)) ⌝ }
+    ensures { λ r. ⌜ now (rows .exit) ≡ shifted (streamRow noStream) p n (now (rows .entry)) ⌝ }
 {
     let mut i = p;
     while i + 1 < n {
@@ -55,11 +56,12 @@ fn shift_streams(rows: &mut [[u64; 4]], n: usize, p: usize)
         rows[i] = row;
         i += 1;
     }
+    rows[i] = [0, 0, 0, 0];
 }
 
 pub fn edit_streams(rows: &mut [[u64; 4]], n: usize, edit: Edit, row: [u64; 4])
     requires { ⌜ (n ≤ 16) × (length (now rows) ≡ 16) ⌝ }
-    ensures { λ r. ⌜ now (rows .exit) ≡ edited edit n row (now (rows .entry)) ⌝ }
+    ensures { λ r. ⌜ now (rows .exit) ≡ edited (streamRow noStream) edit n row (now (rows .entry)) ⌝ }
 {
     match edit {
         Edit::Same => {}
@@ -83,7 +85,7 @@ pub fn edit_streams(rows: &mut [[u64; 4]], n: usize, edit: Edit, row: [u64; 4])
 
 fn shift_requests(rows: &mut [[u64; 6]], n: usize, p: usize)
     requires { ⌜ (p < n) × (n ≤ length (now rows)) ⌝ }
-    ensures { λ r. ⌜ now (rows .exit) ≡ shifted (getD (now (rows .entry)) (n - 1) []) p n (now (rows .entry)) ⌝ }
+    ensures { λ r. ⌜ now (rows .exit) ≡ shifted (requestRow noRequest) p n (now (rows .entry)) ⌝ }
 {
     let mut i = p;
     while i + 1 < n {
@@ -91,11 +93,12 @@ fn shift_requests(rows: &mut [[u64; 6]], n: usize, p: usize)
         rows[i] = row;
         i += 1;
     }
+    rows[i] = [0, 0, 0, 0, 0, 0];
 }
 
 pub fn edit_requests(rows: &mut [[u64; 6]], n: usize, edit: Edit, row: [u64; 6])
     requires { ⌜ (n ≤ 16) × (length (now rows) ≡ 16) ⌝ }
-    ensures { λ r. ⌜ now (rows .exit) ≡ edited edit n row (now (rows .entry)) ⌝ }
+    ensures { λ r. ⌜ now (rows .exit) ≡ edited (requestRow noRequest) edit n row (now (rows .entry)) ⌝ }
 {
     match edit {
         Edit::Same => {}
@@ -119,7 +122,7 @@ pub fn edit_requests(rows: &mut [[u64; 6]], n: usize, edit: Edit, row: [u64; 6])
 
 fn shift_names(rows: &mut [[u8; 128]], n: usize, p: usize)
     requires { ⌜ (p < n) × (n ≤ length (now rows)) ⌝ }
-    ensures { λ r. ⌜ now (rows .exit) ≡ shifted (getD (now (rows .entry)) (n - 1) []) p n (now (rows .entry)) ⌝ }
+    ensures { λ r. ⌜ now (rows .exit) ≡ shifted blankBytes p n (now (rows .entry)) ⌝ }
 {
     let mut i = p;
     while i + 1 < n {
@@ -127,11 +130,12 @@ fn shift_names(rows: &mut [[u8; 128]], n: usize, p: usize)
         rows[i] = row;
         i += 1;
     }
+    rows[i] = [0; 128];
 }
 
 pub fn edit_names(rows: &mut [[u8; 128]], n: usize, edit: Edit, row: [u8; 128])
     requires { ⌜ (n ≤ 16) × (length (now rows) ≡ 16) ⌝ }
-    ensures { λ r. ⌜ now (rows .exit) ≡ edited edit n row (now (rows .entry)) ⌝ }
+    ensures { λ r. ⌜ now (rows .exit) ≡ edited blankBytes edit n row (now (rows .entry)) ⌝ }
 {
     match edit {
         Edit::Same => {}

@@ -8,6 +8,5 @@ write-fresh-spec =
     tie.close
     (tie.spec
     (λ c κs. search needs)
-    (λ c κs. search needs)
-    (λ c κs. search needs)
-    (λ c. let a = c .before .before .before .before .before .before .args in fresh-is (a .facts .now) (a .streams .now) (a .requests .now) (a .names .now) (a .start) (a .version) _ _ _ (c .before .before .before .before .before .empty-name .ensures) (c .before .before .fresh-facts .ensures) (c .fresh-names .ensures)))
+    (λ c. search needs)
+    (λ c. fresh-is _ _ _ (c .before .before .before .fresh-facts .ensures)))

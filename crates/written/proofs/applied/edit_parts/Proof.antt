@@ -7,6 +7,7 @@ use lib.ListN.{drop, length, length-drop, take}
 use lib.Seq.{length-take-le}
 use Rattle.image.specs.Image.{keysOf}
 use Rattle.written.specs.Edits.{edited}
+use Rattle.written.specs.Kept.{blankBytes}
 use borrow.Author.Needs.{needs}
 use Rattle.written.proofs.applied.edit_parts.Statement.{statement}
 use Rattle.written.proofs.applied.edit_parts.Tie as tie
@@ -27,6 +28,6 @@ edit-parts-spec =
     (λ c.
     let a = c .before .before .before .before .before .before .args in
     let k = length-take-le 16 (drop 2 (a .names .now)) (omega (arith, length-drop 2 (a .names .now))) in
-    let l : length (edited (a .e) (a .n) (a .key) (keysOf (a .names .now))) ≡ 16 = edited-length (a .e) (a .n) (a .key) (keysOf (a .names .now)) (omega (arith, k)) ∙ k in
+    let l : length (edited blankBytes (a .e) (a .n) (a .key) (keysOf (a .names .now))) ≡ 16 = edited-length blankBytes (a .e) (a .n) (a .key) (keysOf (a .names .now)) (omega (arith, k)) ∙ k in
     let q = ap (λ (t : List (List ℕ)). take 2 (a .names .now) ++ (t ++ drop 16 (drop 2 (a .names .now)))) (c .before .before .before .before .edit-names .ensures) in
-    parts-edited (edited (a .e) (a .n) (a .key) (keysOf (a .names .now))) l (a .names .now) (omega arith) _ q _ _ (c .before .edit-names2 .ensures ∙ ap (edited (a .f) (a .m) (a .title)) (titles-between (edited (a .e) (a .n) (a .key) (keysOf (a .names .now))) l (a .names .now) (omega arith) _ q))))
+    parts-edited (edited blankBytes (a .e) (a .n) (a .key) (keysOf (a .names .now))) l (a .names .now) (omega arith) _ q _ _ (c .before .edit-names2 .ensures ∙ ap (edited blankBytes (a .f) (a .m) (a .title)) (titles-between (edited blankBytes (a .e) (a .n) (a .key) (keysOf (a .names .now))) l (a .names .now) (omega arith) _ q))))
