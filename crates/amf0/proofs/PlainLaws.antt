@@ -8,7 +8,7 @@ use Rattle.numbers.specs.Fields.{fieldAt}
 use Rattle.amf0.specs.Grammar.{Value, array, boolean, date, long, null, number, object, strict, string, undefined}
 use Rattle.amf0.specs.Plain.{plain, plainAt, plainFound, propertyAt}
 use Rattle.amf0.specs.Properties.{lastProperty}
-use Rattle.amf0.specs.Reading.{nothing, readAt}
+use Rattle.amf0.specs.Reading.{readAt}
 use Rattle.amf0.specs.Showing.{Content, Standing, plainShown, shown}
 use Rattle.amf0.specs.declared.plain.Plain.{Plain}
 use Rattle.amf0.specs.declared.plain.Plain.the-variants.{Bits, NoValue}

@@ -17,7 +17,6 @@ use text::StreamId;
 use text::room_of;
 use text::text_of;
 ghost use mathlib.Core.Path.{_≡_};
-ghost use mathlib.Core.List.{_++_};
 ghost use Prim.Native.Nat.{_+_, _≤_};
 ghost use lib.ListN.{length};
 ghost use Rattle.numbers.specs.Fields.{front};

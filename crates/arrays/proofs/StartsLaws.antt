@@ -1,15 +1,10 @@
 -- A start over the arrays.
-use mathlib.Core.Path.{_≡_, refl, sym, ap, _∙_}
+use mathlib.Core.Path.{_≡_, sym, ap, _∙_}
 use Prim.Native.Nat.{ℕ}
-use mathlib.Core.Bool.{Bool}
 use mathlib.Core.List.{List}
 use lib.ListN.{replicate, set}
-use Rattle.text.specs.Names.{emptyName}
 use Rattle.text.specs.declared.names.Name.{Name}
-use Rattle.metadata.specs.Metadata.{noMetadata}
-use Rattle.wishes.specs.declared.outcome.Outcome.{Outcome}
 use Rattle.session.specs.State.{freshSession}
-use Rattle.session.specs.declared.decision.Event.the-variants.{NoEvent}
 use Rattle.replies.specs.declared.answer.Answer.{Answer}
 use Rattle.image.specs.Image.{Arrays}
 use Rattle.written.specs.Kept.{factsOf, imageOf}

@@ -21,7 +21,6 @@ use Rattle.wishes.specs.DataFrame.{dataWish}
 use Rattle.wishes.specs.Outcome.{numberOf}
 use Rattle.wishes.specs.declared.outcome.Outcome.{Outcome}
 use Rattle.wishes.specs.declared.outcome.Outcome.the-variants.{BadSession, Done, NoRoom}
-use Rattle.session.specs.Changes.{applied}
 use Rattle.session.specs.State.{sessionSound}
 use Rattle.session.specs.declared.changes.Change.{Change}
 use Rattle.session.specs.declared.decision.Decision.{Decision}

@@ -4,19 +4,18 @@ use Prim.Native.Nat.{ℕ, zero, suc, _+_, _%_, _≤_, _<_}
 use native.Mathlib.Nat.{mod-eq-of-lt}
 use native.Mathlib.Omega.{arith}
 use mathlib.Core.Logic.{_⊎_, inl, inr}
-use mathlib.Core.Bool.{Bool, true, false, _&&_}
+use mathlib.Core.Bool.{Bool, true, false}
 use mathlib.Core.List.{List, [], _∷_}
 use lib.Dec.{eqb, leb, ltb}
 use lib.ListN.{length, take}
 use borrow.Author.Tests.{le-leb, lt-leb, le-ltb, lt-ltb, leb-true, ltb-true}
-use Rattle.numbers.specs.Choose.{pick}
 use Rattle.numbers.proofs.PatternLaws.{le-or-lt}
 use Rattle.text.specs.declared.names.Name.{Name}
 use Rattle.tables.specs.Entries.{noRequest, noStream, requestName, requestNumber, streamName, streamNumber}
 use Rattle.tables.specs.Tables.{risesFrom, sound, tableSound}
 use Rattle.tables.proofs.SoundLaws.{both, rises-sound}
 use Rattle.session.specs.State.{appFits, sessionSound}
-use Rattle.image.specs.Image.{cell, every, factsReadable, joined, keysOf, readableAt, requestOf, requestReadable, requestsAt, sessionAt, soundAt, streamOf, streamReadable, streamsAt, titlesOf, usedRequests, usedStreams}
+use Rattle.image.specs.Image.{cell, every, factsReadable, joined, keysOf, readableAt, requestOf, requestReadable, requestsAt, sessionAt, soundAt, streamOf, streamReadable, streamsAt, titlesOf}
 use Rattle.image.specs.Quick.{quickAt, requestWeight, rowNumber, streamWeight}
 use Rattle.image.proofs.RowsLaws.{all-length, used-front, used-length}
 

@@ -3,11 +3,11 @@ use mathlib.Core.Path.{_≡_, refl, sym, ap, _∙_, subst}
 use Prim.Native.Nat.{ℕ, zero, suc, _+_, _-_, _%_, _≤_, _<_, min}
 use native.Mathlib.Numerals.{add-one}
 use native.Mathlib.Omega.{arith}
-use mathlib.Core.Bool.{Bool, true, false, _&&_}
+use mathlib.Core.Bool.{Bool, true, false}
 use mathlib.Core.Logic.{inl, inr}
 use mathlib.Core.List.{List, [], _∷_, _++_, append-nil}
 use mathlib.Core.Option.{Option, some, none}
-use lib.ListN.{length, length-append, length-replicate, take, drop, set, getD, length-take, length-drop, replicate}
+use lib.ListN.{length, length-append, length-replicate, take, drop, set, getD, length-drop, replicate}
 use lib.Seq.{append-snoc, getD-drop, getD-take, length-take-le, set-at, take-all, take-at, take-suc, take-take}
 use Rattle.numbers.proofs.PatternLaws.{le-or-lt}
 use Rattle.tables.specs.Tables.{look}

@@ -6,7 +6,6 @@ use mathlib.Core.Bool.{Bool, true, _&&_}
 use mathlib.Core.List.{List, [], _∷_, _++_}
 use lib.Dec.{eqb, ltb}
 use lib.ListN.{drop, getD, length, replicate, take}
-use Rattle.text.specs.declared.names.Name.{Name}
 use Rattle.tables.specs.Entries.{noRequest, noStream}
 use Rattle.tables.specs.declared.requests.Request.{Request}
 use Rattle.tables.specs.declared.streams.Stream.{Stream}

@@ -1,12 +1,12 @@
 -- What `send_metadata` writes, the metadata reader reads back the same.
 use mathlib.Core.Path.{_≡_, refl, sym, ap, _∙_, subst}
-use Prim.Native.Nat.{ℕ, _≤_, _<_, _^_, max}
+use Prim.Native.Nat.{ℕ, _≤_, _<_, _^_}
 use native.Mathlib.Omega.{arith}
 use mathlib.Core.Bool.{Bool, true, false}
 use mathlib.Core.List.{List, [], _∷_}
 use lib.Dec.{T, lit≤}
 use lib.Ieee.{Float, binary32, binary64, fits, toBits}
-use lib.ListN.{length, take}
+use lib.ListN.{length}
 use borrow.Author.Tests.{le-ltb}
 use Rattle.numbers.specs.Choose.{pick}
 use Rattle.numbers.specs.Whole.{doubleOf}
@@ -14,10 +14,9 @@ use Rattle.numbers.proofs.ExactLaws.{single-back, single-lt}
 use Rattle.numbers.proofs.WholeLaws.{double-lt, whole-back}
 use Rattle.text.specs.Names.{emptyName, nameOf, nameRead, textOf}
 use Rattle.text.specs.Words.{same, text}
-use Rattle.text.specs.declared.names.NameRead.{NameRead}
 use Rattle.amf0.specs.Bodies.{placeOf}
-use Rattle.amf0.specs.Grammar.{Properties, Value, boolean, depth, depthIn, depthOf, none, number, object, property, string}
-use Rattle.amf0.specs.Plain.{plainAt, plainFound, propertyAt}
+use Rattle.amf0.specs.Grammar.{Value, boolean, depth, depthIn, depthOf, number, string}
+use Rattle.amf0.specs.Plain.{plainFound, propertyAt}
 use Rattle.amf0.specs.Properties.{lastProperty}
 use Rattle.amf0.specs.Showing.{Finds, Maybe, Standing, just, lastOf, nothing, nth, plainShown}
 use Rattle.amf0.specs.Writing.{Fits, FitsIn, FitsOf, encodeOf}
@@ -32,9 +31,6 @@ use Rattle.metadata.specs.Metadata.{Held, tidy, zeroRate}
 use Rattle.metadata.specs.Reading.{encoderIn, encoderOf, fieldsFrom, flagIn, metadataAt, rateIn, wholeIn}
 use Rattle.metadata.specs.Writing.{Listed, given, listed, metadataRow, setOnes}
 use Rattle.metadata.specs.declared.metadata.StreamMetadata.{StreamMetadata}
-use Rattle.metadata.specs.declared.reading.Encoder.{Encoder}
-use Rattle.metadata.specs.declared.reading.Flag.{Flag}
-use Rattle.metadata.specs.declared.reading.MetadataRead.{MetadataRead}
 use Rattle.metadata.specs.declared.reading.Rate.{Rate}
 use Rattle.metadata.specs.declared.reading.Whole.{Whole}
 use Rattle.metadata.proofs.ReadingLaws.{eleven}

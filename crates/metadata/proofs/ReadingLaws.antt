@@ -9,7 +9,6 @@ use Rattle.numbers.specs.Single.{convert}
 use Rattle.numbers.specs.Whole.{u32Of}
 use Rattle.text.specs.Names.{nameRead}
 use Rattle.text.specs.Words.{text}
-use Rattle.text.specs.declared.names.NameRead.{NameRead}
 use Rattle.amf0.specs.Plain.{propertyAt}
 use Rattle.amf0.specs.declared.plain.Plain.{Plain}
 use Rattle.amf0.specs.declared.plain.Plain.the-variants.{Bits, Boolean, Text}

@@ -13,7 +13,6 @@ use Rattle.amf0.specs.Plain.{propertyAt}
 use Rattle.amf0.specs.declared.plain.Plain.{Plain}
 use Rattle.amf0.specs.declared.plain.Plain.the-variants.{Bits, Boolean, Text, Object, Other, NoValue}
 use Rattle.metadata.specs.Metadata.{zeroRate}
-use Rattle.metadata.specs.declared.metadata.StreamMetadata.{StreamMetadata}
 use Rattle.metadata.specs.declared.reading.Encoder.{Encoder}
 use Rattle.metadata.specs.declared.reading.Flag.{Flag}
 use Rattle.metadata.specs.declared.reading.MetadataRead.{MetadataRead}

@@ -3,7 +3,6 @@ use Prim.Native.Nat.{ℕ, _%_}
 use mathlib.Core.Bool.{Bool}
 use mathlib.Core.List.{List, [], _∷_}
 use lib.Dec.{eqb}
-use lib.ListN.{getD}
 use lib.Ieee.{Float, binary32, binary64, ofBits, toBits}
 use Rattle.numbers.specs.Single.{convert, recode}
 use Rattle.numbers.specs.declared.play.PlayDuration.{PlayDuration}

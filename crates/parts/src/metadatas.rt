@@ -8,7 +8,6 @@ use numbers::single_of;
 use text::Name;
 ghost use mathlib.Core.Path.{_≡_};
 ghost use Prim.Native.Nat.{_%_};
-ghost use lib.Dec.{eqb};
 ghost use Rattle.parts.specs.Parts.{metadataOf, metadataRows, setFlags, valuesWith};
 
 fn set_flags(m: StreamMetadata) -> [u64; 11]

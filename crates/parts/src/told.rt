@@ -11,7 +11,6 @@ use wishes::number_of;
 ghost use mathlib.Core.Path.{_≡_};
 ghost use Rattle.text.specs.Names.{emptyName};
 ghost use Rattle.metadata.specs.Metadata.{noMetadata};
-ghost use Rattle.wishes.specs.Outcome.{numberOf};
 ghost use Rattle.session.specs.declared.decision.Event.the-variants.{NoEvent};
 ghost use Rattle.parts.specs.Told.{isSet, toldOf};
 

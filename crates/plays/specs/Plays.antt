@@ -1,7 +1,7 @@
 -- The calls of a trace, each with its fields read from an entry; the text for it, and the next session.
 use Prim.Native.Nat.{ℕ, _+_, _/_, _%_}
 use mathlib.Core.Bool.{Bool}
-use mathlib.Core.List.{List, []}
+use mathlib.Core.List.{List}
 use lib.Dec.{eqb}
 use lib.Ieee.{Float, binary32, binary64, ofBits}
 use lib.ListN.{drop, take}

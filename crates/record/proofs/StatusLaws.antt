@@ -7,7 +7,7 @@ use lib.ListN.{length, length-append}
 use Rattle.numbers.specs.Fields.{bytesOf}
 use Rattle.numbers.proofs.FieldsLaws.{length-bytesOf}
 use Rattle.text.specs.Words.{text}
-use Rattle.amf0.specs.Grammar.{Properties, counted, none, null, number, object, property, string}
+use Rattle.amf0.specs.Grammar.{Properties, counted, none, null, number, object, string}
 use Rattle.amf0.specs.Writing.{encode, encodeIn, encodeOf, room}
 use Rattle.amf0.proofs.WriteTheorems.{length-encodeOf}
 use Rattle.record.specs.Bodies.{openStatus, stringPair}

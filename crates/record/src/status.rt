@@ -10,7 +10,7 @@ use numbers::write_bytes_at;
 use numbers::write_field_at;
 use text::StreamId;
 ghost use mathlib.Core.Path.{_≡_};
-ghost use mathlib.Core.List.{[], _∷_, _++_};
+ghost use mathlib.Core.List.{_++_};
 ghost use Prim.Native.Nat.{_+_, _≤_, _<_};
 ghost use lib.ListN.{length};
 ghost use Rattle.numbers.specs.Fields.{front, over};

@@ -2,10 +2,9 @@
 use mathlib.Core.Path.{_≡_, sym, ap, _∙_}
 use Prim.Native.Nat.{ℕ}
 use mathlib.Core.Bool.{Bool, true, false}
-use mathlib.Core.List.{List, []}
+use mathlib.Core.List.{List}
 use Rattle.numbers.specs.Choose.{pick}
 use Rattle.spelling.specs.Text.{putAll}
-use Rattle.spelling.proofs.TextLaws.{put-none}
 
 pub at-case : {K : Type 0} (f : K → List ℕ) (k y : K) (p q : ℕ × List ℕ) → q ≡ putAll (f y) p → k ≡ y → q ≡ putAll (f k) p
 at-case f k y p q e h = e ∙ ap (λ z. putAll (f z) p) (sym h)

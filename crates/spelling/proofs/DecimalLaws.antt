@@ -1,15 +1,13 @@
 -- The kit's digits of a number are those of its decimal text.
 use mathlib.Core.Path.{_≡_, refl, ap, _∙_, subst}
-use Prim.Native.Nat.{ℕ, zero, suc, _+_, _-_, _*_, _/_, _^_, _≤_, _<_}
+use Prim.Native.Nat.{ℕ, zero, suc, _-_, _*_, _/_, _^_, _≤_, _<_}
 use native.Mathlib.Omega.{arith}
 use native.Mathlib.Nat.{one-le-pow, pow-le-pow-right, pow-succ'}
 use mathlib.Core.Bool.{Bool, true, false}
-use mathlib.Core.List.{List, []}
+use mathlib.Core.List.{List}
 use lib.Dec.{ltb}
-use lib.ListN.{length, take}
 use borrow.Author.Tests.{lt-ltb, le-ltb, ltb-false, ltb-true}
 use Rattle.io.specs.Digits.{Fewest, digits}
-use Rattle.numbers.specs.Choose.{pick}
 use Rattle.spelling.specs.Text.{decimalText, putAll, width}
 
 -- a number below ten times m has a tenth below m

@@ -1,15 +1,12 @@
 -- Text put behind text, and the loops over a word and over bytes.
 use mathlib.Core.Path.{_≡_, refl, sym, ap, ap₂, _∙_}
-use Prim.Native.Nat.{ℕ, zero, suc, _+_, _/_, _%_, _≤_, _<_}
+use Prim.Native.Nat.{ℕ, _+_, _/_, _%_, _≤_, _<_}
 use native.Mathlib.Numerals.{add-one}
-use mathlib.Core.Bool.{Bool, true, false, cond}
 use native.Mathlib.Omega.{arith}
 use mathlib.Core.List.{List, [], _∷_, _++_, append-nil}
-use lib.Dec.{ltb}
 use lib.ListN.{length, drop, getD, set, drop-of-length-le}
 use lib.Seq.{drop-cons}
 use borrow.Author.Tests.{lt-ltb, le-ltb}
-use Rattle.numbers.specs.Choose.{pick}
 use Rattle.numbers.specs.Fields.{bytesOf, front}
 use Rattle.numbers.proofs.FieldsLaws.{length-bytesOf}
 use Rattle.spelling.specs.Text.{glyph, hexOf, hexText, putAll, putOne}

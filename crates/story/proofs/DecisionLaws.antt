@@ -126,7 +126,7 @@ pub data Did (s : Session) : Doing → Decision → Type 0 where
   files : {y : StreamId} {w : Wish} {event : Event} {app key : Name} {r : Request} → filedBy y event app key ≡ some (asFiled r) → Inert (w .want) → Next s r
       → wantAsk y (w .want) (w .name) ≡ some (unnumbered r) → Did s (Wants y w) (raising event app key noMetadata (filingOf r))
   connects : {y : StreamId} {w : Wish} {event : Event} {app key : Name} {r : Request} {t encoding : ℕ} → filedBy y event app key ≡ some (asFiled r) → Inert (w .want) → Next s r
-      → w .want ≡ ConnectWant t encoding → Did s (Wants y w) (raising event app key noMetadata (filingConnect r encoding))
+      → (w .want ≡ ConnectWant t encoding) × (r .stream .0 ≡ 0) → Did s (Wants y w) (raising event app key noMetadata (filingConnect r encoding))
   closed : {y : StreamId} {w : Wish} {x : StreamId} {e : Stream} {d : Decision} → w .want ≡ CloseStream x → connected s ≡ true → streamOf s (x .0) ≡ some e
       → Ended d (setting (created (e .id))) → Did s (Wants y w) d
   deleted : {y : StreamId} {w : Wish} {x : StreamId} {e : Stream} {d : Decision} → w .want ≡ DeleteStream x → connected s ≡ true → streamOf s (x .0) ≡ some e
@@ -232,7 +232,7 @@ module _ (s : Session) (y : StreamId) (w : Wish) where
   wants (Refused o) q k = quiet _ refl k refl (rw q tt)
   wants (ConnectWant t encoding) q k =
       room-says y (w .fits) _ Does (λ o n. quiet _ refl n refl (rw q tt))
-      (λ h j. connects refl (record { makesNone = rw q; effectless = λ z h old. rw q }) (record { number = refl; more = h; place = j }) q)
+      (λ h j. connects refl (record { makesNone = rw q; effectless = λ z h old. rw q }) (record { number = refl; more = h; place = j }) (q, refl))
   wants (CreateStream t) q k = make t q y
   wants (CloseStream x) q k =
       on-stream x _ Does (λ n. quiet _ refl refl refl (rw q (λ d c. n c))) (λ e c f. closed q c f (end (e .state) _ _ _))

@@ -307,7 +307,7 @@ module _ (s : Session) (h : Good s) where
   did-same (still g d c n f k) z = rw c (refl, refl, refl)
   did-same (made q m k) z = (refl, refl, refl)
   did-same (files f i k a) z = (refl, refl, refl)
-  did-same (connects f i k a) z = absurd (rw a at z)
+  did-same (connects f i k a) z = absurd (rw (a .0) at z)
   did-same (closed q c f k) z = rw (k .change) (refl, refl, refl)
   did-same (deleted q c f k) z = rw (k .change) (refl, refl, refl)
   did-same (completes f) z = (refl, refl, refl)
@@ -402,7 +402,7 @@ module _ (s : Session) (h : Good s) where
       let u : r .id .0 ≡ n = same-found _ _ _ (filed-number y event app key (asFiled r) f) e in
       let v = k .number in
       (rw (filed-next r k) (omega arith), λ q w. a ∙ ap waitingAsk (sym (ap (requestOf (withRequest s r)) (sym u) ∙ filed-same s h r (k .place) (k .number)) ∙ w))
-  did-files (connects f i k a) z n e = absurd (rw a at z)
+  did-files (connects f i k a) z n e = absurd (rw (a .0) at z)
   did-files (closed q c f k) z n e = absurd (not-none _ _ e (k .files))
   did-files (deleted q c f k) z n e = absurd (not-none _ _ e (k .files))
   did-files (completes f) z n e = absurd (not-none _ _ e refl)

@@ -1,8 +1,6 @@
 -- What a search says, turned back into what was looked for.
 use mathlib.Core.Path.{_≡_, refl, sym, ap, _∙_}
-use Prim.Native.Nat.{ℕ}
-use native.Mathlib.Omega.{arith}
-use mathlib.Core.Bool.{Bool, true, false, true≢false}
+use mathlib.Core.Bool.{true, false, true≢false}
 use mathlib.Core.Option.{Option, some, none}
 use Rattle.tables.specs.Entries.{foundRequest, foundStream}
 use Rattle.tables.specs.declared.requests.Request.{Request}

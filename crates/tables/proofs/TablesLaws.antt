@@ -6,14 +6,14 @@ use native.Mathlib.Numerals.{add-one}
 use native.Mathlib.Omega.{arith}
 use mathlib.Core.List.{List, [], _∷_, _++_, append-assoc, append-nil}
 use mathlib.Core.Option.{Option, some, none}
-use lib.ListN.{length, take, drop, set, getD, length-take, length-drop, drop-of-length-le, take-append-drop}
+use lib.ListN.{length, take, drop, set, getD, length-take, drop-of-length-le, take-append-drop}
 use lib.Seq.{append-snoc, drop-append-le, drop-cons, drop-set-lt, getD-take, length-take-le, set-split, take-all, take-suc, take-suc-set, take-set-lt, take-take}
 use borrow.Author.Tests.{eq-eqb, ne-eqb}
 use Rattle.numbers.proofs.ChooseLaws.{pick-eq}
 use Rattle.numbers.proofs.PatternLaws.{le-or-lt}
 use Rattle.tables.specs.Tables.{Stands, change, changed, closed, look, remove, removed, shifted}
 use Rattle.tables.specs.declared.places.Place.{Place}
-use Rattle.tables.specs.declared.places.Place.the-variants.{At, Missing}
+use Rattle.tables.specs.declared.places.Place.the-variants.{At}
 
 -- ---- the first n places
 module _ {A : Type 0} (l : List A) where

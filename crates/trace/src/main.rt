@@ -1,14 +1,9 @@
 // Reads a trace on standard input, and writes its text.
 mod window;
 
-use entries::begins_trace;
-use entries::entry_length;
-use entries::good_entry;
 use libc::STDOUT_FILENO;
-use replay::play_entry;
+use replay::next_entry;
 use session::Session;
-use spelling::put_field;
-use spelling::put_word;
 use text::part_of;
 use text::text_of;
 use window::Window;
@@ -29,42 +24,17 @@ fn say(text: &[u8], n: usize) {
     io::write_all(STDOUT_FILENO, text_of(text, n));
 }
 
-fn bad_trace(line: &mut [u8], entry: u64) {
-    let to = put_field(line, 0, b"bad trace at ", entry);
-    let n = put_word(line, to, b"\n");
-    say(line, n);
-}
-
-// "The first entry is a start (anything else is `bad trace at 1`)".
-fn may_stand(e: &[u8], entry: u64) -> bool {
-    if entry == 1 {
-        if !begins_trace(e) {
-            return false;
-        }
-    }
-    good_entry(e)
-}
-
-fn next_entry(bytes: &[u8], space: &mut [u8], line: &mut [u8], run: Run) -> Run {
+// What is at hand is longer than any entry, or it is all that is left.
+fn next_in(bytes: &[u8], space: &mut [u8], line: &mut [u8], run: Run) -> Run {
     let window = run.window;
     let session = run.session;
-    let e = part_of(bytes, window.from, in_window(window));
-    if !may_stand(e, run.entry) {
-        bad_trace(line, run.entry);
-        return Run {
-            more: false,
-            window,
-            entry: run.entry,
-            session,
-        };
-    }
-    let n = entry_length(e);
-    let turn = play_entry(session, text_of(e, n), space, line);
+    let rest = part_of(bytes, window.from, in_window(window));
+    let turn = next_entry(session, rest, run.entry, space, line);
     let after = turn.session;
     say(line, turn.count);
     Run {
-        more: true,
-        window: move_on(window, n),
+        more: turn.more,
+        window: move_on(window, turn.taken),
         entry: std::num::wrapping_add_u64(run.entry, 1),
         session: after,
     }
@@ -87,7 +57,7 @@ fn next(
             session,
         };
     }
-    next_entry(
+    next_in(
         bytes,
         space,
         line,

@@ -1,5 +1,4 @@
 -- Every wish that is read carries a name of at most 128 bytes, the empty one where the text was longer.
-use mathlib.Core.Path.{_≡_}
 use Prim.Native.Nat.{ℕ, _≤_}
 use mathlib.Core.Bool.{Bool, true, false}
 use mathlib.Core.List.{List}

@@ -1,5 +1,5 @@
 -- A number of document 01 tells its outcome, with the action and the stream that 11 names: to name a case is to name its number.
-use mathlib.Core.Path.{_≡_, refl, sym, ap, _∙_}
+use mathlib.Core.Path.{_≡_, refl, sym, _∙_}
 use Prim.Native.Nat.{ℕ}
 use lib.Dec.{eqb}
 use Rattle.numbers.specs.Choose.{pick}

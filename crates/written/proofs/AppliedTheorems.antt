@@ -1,16 +1,16 @@
 -- A change made in the arrays leaves what is kept of the session after that change.
 use mathlib.Core.Path.{_≡_, refl, sym, ap, _∙_}
-use Prim.Native.Nat.{ℕ, _+_, _-_, _%_, _≤_, _<_, min}
+use Prim.Native.Nat.{ℕ, _+_, _-_, _%_, _≤_, _<_}
 use native.Mathlib.Nat.{mod-eq-of-lt}
 use native.Mathlib.Omega.{arith}
-use mathlib.Core.Bool.{Bool, true, false, _&&_}
+use mathlib.Core.Bool.{true}
 use mathlib.Core.List.{List, [], _∷_, _++_, map}
 use lib.Dec.{eqb, leb, ltb}
 use lib.ListN.{drop, getD, length, length-append, length-drop, length-replicate, length-take, replicate, set, take, take-append-drop}
 use lib.Seq.{length-take-le, take-all}
 use borrow.Author.Tests.{leb-true, ltb-true}
-use Rattle.tables.specs.Entries.{noRequest, noStream, requestName, requestNumber, streamName, streamNumber}
-use Rattle.tables.specs.Tables.{sound, tableSound}
+use Rattle.tables.specs.Entries.{noRequest, noStream, requestNumber, streamName, streamNumber}
+use Rattle.tables.specs.Tables.{tableSound}
 use Rattle.tables.specs.declared.requests.Request.{Request}
 use Rattle.tables.specs.declared.streams.Stream.{Stream}
 use Rattle.tables.proofs.SoundLaws.{both}
@@ -20,12 +20,10 @@ use Rattle.session.specs.declared.changes.Change.{Change}
 use Rattle.session.specs.declared.changes.Effect.{Effect}
 use Rattle.session.specs.declared.changes.Effect.the-variants.{Nothing, StreamMade, StreamSet, StreamRemoved, RequestFiled, ConnectFiled, ConnectAccepted, StreamAccepted, RequestRemoved}
 use Rattle.session.specs.declared.session.Session.{Session}
-use Rattle.image.specs.Cases.{flagNumber, sessionState, sessionStateNumber}
 use Rattle.image.specs.Image.{Arrays, Shaped, cell, every, factsReadable, joined, keysOf, readableAt, requestOf, requestReadable, requestsAt, sessionAt, soundAt, streamOf, streamReadable, streamsAt, titlesOf, usedRequests, usedStreams}
 use Rattle.image.proofs.RowsLaws.{all-length, part-length, used-front}
 use Rattle.written.specs.Edits.{appAfter, appliedAt, edited, editedBy, factsAfter, inUse, placeIn, requestEdit, requestPlace, rowId, streamEdit, streamPlace}
 use Rattle.written.specs.Kept.{factsOf, keptAt, keyBytes, onto, requestRow, requestsOf, streamRow, streamsOf, titleBytes}
-use Rattle.written.specs.declared.edits.Edit.the-variants.{Same, Add, Put, Cut}
 use Rattle.written.proofs.BackLaws.{flag-back, names-back, place-joined, request-back, rows-back, session-back, stream-back, ten}
 use Rattle.written.proofs.RoundTheorems.{Tidy}
 use Rattle.written.proofs.ColumnLaws.{kept-add, kept-cut, kept-put, kept-same}

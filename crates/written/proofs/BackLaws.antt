@@ -1,17 +1,17 @@
 -- What is read from a row is written as that row.
 use mathlib.Core.Path.{_≡_, refl, sym, ap, _∙_}
-use Prim.Native.Nat.{ℕ, zero, suc, _%_, _≤_, _<_}
+use Prim.Native.Nat.{ℕ, zero, suc, _%_, _<_}
 use native.Mathlib.Nat.{mod-eq-of-lt}
 use native.Mathlib.Omega.{arith}
-use mathlib.Core.Bool.{Bool, true, false, _&&_}
+use mathlib.Core.Bool.{Bool, true}
 use mathlib.Core.List.{List, [], _∷_, map}
 use lib.Dec.{eqb, ltb}
-use lib.ListN.{getD, length, take}
+use lib.ListN.{length, take}
 use borrow.Author.Tests.{ltb-true}
 use Rattle.numbers.specs.Choose.{pick}
 use Rattle.tables.proofs.SoundLaws.{both}
 use Rattle.image.specs.Cases.{flagNumber, kindNumber, kindOf, modeNumber, modeOf, sessionState, sessionStateNumber, stateNumber, stateOf}
-use Rattle.image.specs.Image.{Wide, cell, every, factsReadable, joined, requestOf, requestReadable, streamOf, streamReadable}
+use Rattle.image.specs.Image.{Wide, cell, every, joined, requestOf, requestReadable, streamOf, streamReadable}
 use Rattle.written.specs.Edits.{placeIn, rowId}
 use Rattle.written.specs.Kept.{requestRow, streamRow}
 

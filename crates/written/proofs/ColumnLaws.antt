@@ -2,16 +2,12 @@
 use mathlib.Core.Path.{_≡_, refl, sym, ap, _∙_}
 use mathlib.Core.Logic.{_⊎_, inl, inr}
 use Prim.Native.Nat.{ℕ, zero, suc, _+_, _-_, _≤_, _<_, max, min}
-use native.Mathlib.Numerals.{add-one}
 use native.Mathlib.Omega.{arith}
-use mathlib.Core.Bool.{Bool, true, false}
-use mathlib.Core.List.{List, [], _∷_, _++_, map, append-assoc, append-nil}
-use mathlib.Core.Option.{Option, some, none}
-use lib.Dec.{eqb, leb}
+use mathlib.Core.List.{List, [], _∷_, _++_, map, append-assoc}
+use mathlib.Core.Option.{none}
 use lib.ListN.{List·getD-append, drop, getD, length, length-append, length-drop, length-map, length-replicate, length-set, replicate, set, take, take-append-drop}
-use lib.Seq.{append-snoc, drop-at, length-take-le, set-append-left, set-at, set-out, set-split, take-all, take-append-add, take-append-le, take-at, take-set-lt, take-take}
-use borrow.Author.Tests.{eq-eqb, le-leb, lt-leb, ne-eqb}
-use Rattle.numbers.specs.Choose.{pick}
+use lib.Seq.{append-snoc, drop-at, length-take-le, set-append-left, set-at, set-out, set-split, take-append-add, take-append-le, take-at, take-set-lt, take-take}
+use borrow.Author.Tests.{le-leb, lt-leb}
 use Rattle.numbers.proofs.ChooseLaws.{pick-eq}
 use Rattle.numbers.proofs.PatternLaws.{le-or-lt}
 use Rattle.tables.specs.Tables.{Stands, changed, look, removed, shifted}
@@ -20,7 +16,7 @@ use Rattle.tables.proofs.TablesLaws.{changed-at, changed-missing, look-no, remo
 use Rattle.session.specs.State.{oneMore}
 use Rattle.written.specs.Edits.{edited, placeIn}
 use Rattle.written.specs.Kept.{onto}
-use Rattle.written.specs.declared.edits.Edit.the-variants.{Same, Add, Put, Cut}
+use Rattle.written.specs.declared.edits.Edit.the-variants.{Put, Cut}
 use Rattle.written.proofs.EditsLaws.{cut-in, cut-out, put-in, put-out}
 
 -- ---- the place of a number

@@ -4,11 +4,9 @@ use mathlib.Core.Logic.{inl, inr}
 use Prim.Native.Nat.{ℕ, suc, _+_, _≤_, _<_}
 use native.Mathlib.Omega.{arith}
 use mathlib.Core.List.{List, [], _∷_, _++_, append-assoc, append-nil}
-use lib.Dec.{eqb, ltb}
-use lib.ListN.{drop, drop-of-length-le, getD, length, length-append, length-drop, length-set, length-take, set, take}
+use lib.ListN.{drop, drop-of-length-le, getD, length, length-append, length-drop, length-set, set, take}
 use lib.Seq.{drop-at, length-take-le, set-out, take-at}
 use borrow.Author.Tests.{eq-eqb, le-ltb, lt-ltb, ne-eqb}
-use Rattle.numbers.specs.Choose.{pick}
 use Rattle.numbers.proofs.PatternLaws.{le-or-lt}
 use Rattle.tables.specs.Entries.{noRequest, noStream}
 use Rattle.tables.specs.Tables.{shifted}

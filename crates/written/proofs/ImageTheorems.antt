@@ -1,5 +1,5 @@
 -- A whole session as arrays: a call leaves the image of the next session where the image of a session stood, and it is read again.
-use mathlib.Core.Path.{_≡_, refl, sym, ap, _∙_}
+use mathlib.Core.Path.{_≡_, sym, ap, _∙_}
 use Prim.Native.Nat.{ℕ, zero, suc, _+_, _-_, _≤_, max}
 use native.Mathlib.Omega.{arith}
 use mathlib.Core.List.{List, _∷_, _++_, map}

@@ -1,12 +1,12 @@
 -- What is kept in the arrays is read from them again.
 use mathlib.Core.Path.{_≡_, refl, sym, ap, _∙_}
-use Prim.Native.Nat.{ℕ, _-_, _%_, _≤_, _<_, max}
+use Prim.Native.Nat.{ℕ, _-_, _≤_, _<_, max}
 use native.Mathlib.Nat.{mod-eq-of-lt}
 use native.Mathlib.Omega.{arith}
-use mathlib.Core.Bool.{Bool, true, false, _&&_}
+use mathlib.Core.Bool.{Bool, true, false}
 use mathlib.Core.List.{List, [], _∷_, _++_, map, append-assoc}
 use lib.Dec.{eqb, ltb}
-use lib.ListN.{drop, getD, length, length-append, length-drop, length-map, length-replicate, length-take, replicate, take, take-append-drop}
+use lib.ListN.{drop, length, length-append, length-drop, length-map, length-replicate, length-take, replicate, take, take-append-drop}
 use lib.Seq.{take-all, take-at, take-take, drop-at}
 use borrow.Author.Tests.{lt-ltb}
 use Rattle.text.specs.declared.words.PublishMode.{PublishMode}

@@ -1,16 +1,13 @@
 -- A start has nothing past its counts, and every change leaves it so; of a removal, where what is removed is there.
 use mathlib.Core.Path.{_≡_, refl, sym, ap, _∙_, subst}
 use mathlib.Core.Logic.{inl, inr}
-use Prim.Native.Nat.{ℕ, suc, _+_, _-_, _≤_, _<_}
+use Prim.Native.Nat.{ℕ, suc, _+_, _-_, _≤_}
 use native.Mathlib.Omega.{arith}
-use mathlib.Core.Bool.{Bool, true, false}
 use mathlib.Core.List.{List, [], _∷_, _++_}
-use mathlib.Core.Option.{Option, some, none}
-use lib.Dec.{eqb, leb}
+use mathlib.Core.Option.{some}
 use lib.ListN.{drop, length, length-append, length-replicate, replicate, set, take}
 use lib.Seq.{append-snoc, drop-at, set-at, set-out, take-at}
 use borrow.Author.Tests.{le-leb, lt-leb}
-use Rattle.numbers.specs.Choose.{pick}
 use Rattle.numbers.proofs.ChooseLaws.{pick-eq}
 use Rattle.numbers.proofs.PatternLaws.{le-or-lt}
 use Rattle.text.specs.declared.names.Name.{Name}

@@ -1,6 +1,5 @@
 use native.Mathlib.Omega.{arith}
 use Rattle.calls.proofs.StartsLaws.{big-chunk, by-version, no-chunk}
-use borrow.Author.Needs.{needs}
 use Rattle.arrays.proofs.starts.config_bad.Statement.{statement}
 use Rattle.arrays.proofs.starts.config_bad.Tie as tie
 

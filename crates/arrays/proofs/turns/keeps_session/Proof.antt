@@ -1,7 +1,6 @@
 use Rattle.image.proofs.TestsLaws.{case-here, case-past}
-use mathlib.Core.Path.{refl, ap, _∙_}
+use mathlib.Core.Path.{refl}
 use Rattle.arrays.specs.Turns.{keeps}
-use borrow.Author.Needs.{needs}
 use Rattle.arrays.proofs.turns.keeps_session.Statement.{statement}
 use Rattle.arrays.proofs.turns.keeps_session.Tie as tie
 

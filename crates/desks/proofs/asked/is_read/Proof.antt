@@ -1,5 +1,4 @@
 use Rattle.desks.proofs.SeenLaws.{read-18, read-20, read-4}
-use borrow.Author.Needs.{needs}
 use Rattle.desks.proofs.asked.is_read.Statement.{statement}
 use Rattle.desks.proofs.asked.is_read.Tie as tie
 

@@ -1,7 +1,5 @@
 use Rattle.entries.proofs.EntriesLaws.{failed, passed}
 use mathlib.Core.Path.{ap, refl, _∙_}
-use Prim.Native.Nat.{ℕ}
-use lib.Dec.{leb}
 use native.Mathlib.Omega.{arith}
 use Rattle.entries.specs.declared.kinds.Kind.{Kind}
 use Rattle.entries.specs.Entries.{fieldsGood, goodEntry, kindOf}

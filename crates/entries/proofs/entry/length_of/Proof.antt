@@ -1,5 +1,5 @@
 use Rattle.entries.proofs.EntriesLaws.{at-case}
-use mathlib.Core.Path.{ap, refl}
+use mathlib.Core.Path.{ap}
 use Prim.Native.Nat.{ℕ, _+_}
 use Rattle.entries.specs.declared.kinds.Kind.{Kind}
 use Rattle.entries.specs.Entries.{lengthOf}

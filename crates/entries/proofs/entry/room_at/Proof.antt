@@ -1,6 +1,4 @@
 use Rattle.entries.proofs.EntriesLaws.{at-case}
-use mathlib.Core.Path.{refl}
-use Prim.Native.Nat.{ℕ}
 use Rattle.entries.specs.declared.kinds.Kind.{Kind}
 use Rattle.entries.specs.Entries.{roomAt}
 use borrow.Author.Needs.{needs}

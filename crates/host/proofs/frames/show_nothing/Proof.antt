@@ -1,4 +1,4 @@
-use mathlib.Core.Path.{refl, ap, _∙_}
+use mathlib.Core.Path.{_∙_}
 use Rattle.parts.specs.Parts.{mediaShown}
 use borrow.Author.Needs.{needs}
 use Rattle.host.proofs.frames.show_nothing.Statement.{statement}

@@ -1,5 +1,5 @@
 use borrow.Author.Tests.{not-false, not-true}
-use mathlib.Core.Path.{refl, ap, _∙_}
+use mathlib.Core.Path.{refl, _∙_}
 use Rattle.image.specs.Image.{cell, readableAt, sessionAt}
 use Rattle.session.specs.State.{sessionSound}
 use Rattle.record.specs.Clock.{timeOf}

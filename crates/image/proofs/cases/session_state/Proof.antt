@@ -1,8 +1,6 @@
 use Rattle.image.proofs.TestsLaws.{case-here, case-past}
-use native.Mathlib.Omega.{arith}
 use Rattle.image.specs.Cases.{sessionState}
 use mathlib.Core.Path.{refl}
-use borrow.Author.Needs.{needs}
 use Rattle.image.proofs.cases.session_state.Statement.{statement}
 use Rattle.image.proofs.cases.session_state.Tie as tie
 

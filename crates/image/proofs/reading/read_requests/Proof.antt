@@ -1,9 +1,8 @@
 use Rattle.image.proofs.RowsLaws.{all-length, read-step, used-counted}
 use native.Mathlib.Omega.{arith}
-use mathlib.Core.Path.{_≡_, refl, sym, ap, _∙_}
-use mathlib.Core.List.{_++_}
-use Prim.Native.Nat.{ℕ, _+_, _-_, _≤_}
-use lib.ListN.{length, length-set, replicate, take}
+use mathlib.Core.Path.{_≡_, refl, ap, _∙_}
+use Prim.Native.Nat.{_-_, _≤_}
+use lib.ListN.{length, length-set, replicate}
 use Rattle.tables.specs.Entries.{noRequest}
 use Rattle.image.specs.Image.{joined, requestOf, titlesOf, requestsAt}
 use borrow.Author.Needs.{needs}

@@ -1,6 +1,6 @@
 use Rattle.image.proofs.RowsLaws.{wide-all, wide-next}
 use native.Mathlib.Omega.{arith}
-use Prim.Native.Nat.{_+_, _-_, _≤_}
+use Prim.Native.Nat.{_-_, _≤_}
 use lib.ListN.{take}
 use Rattle.image.specs.Image.{Wide}
 use borrow.Author.Needs.{needs}

@@ -1,7 +1,7 @@
 use mathlib.Core.Path.{ap}
 use Prim.Native.Nat.{ℕ}
 use Rattle.parts.proofs.PartsLaws.{at-case}
-use mathlib.Core.Path.{refl, _∙_}
+use mathlib.Core.Path.{_∙_}
 use Rattle.parts.specs.Parts.{eventNumbers, plainEvent}
 use borrow.Author.Needs.{needs}
 use Rattle.parts.proofs.events.event_numbers.Statement.{statement}

@@ -1,6 +1,5 @@
-use mathlib.Core.Path.{refl, _∙_}
+use mathlib.Core.Path.{refl}
 use Rattle.parts.specs.Parts.{mediaShown}
-use borrow.Author.Needs.{needs}
 use Rattle.parts.proofs.shown.show_media.Statement.{statement}
 use Rattle.parts.proofs.shown.show_media.Tie as tie
 

@@ -1,7 +1,6 @@
 use Rattle.image.proofs.TestsLaws.{case-here, case-past}
-use mathlib.Core.Path.{refl, ap, _∙_}
+use mathlib.Core.Path.{refl}
 use Rattle.parts.specs.Told.{isSet}
-use borrow.Author.Needs.{needs}
 use Rattle.parts.proofs.told.is_set.Statement.{statement}
 use Rattle.parts.proofs.told.is_set.Tie as tie
 

@@ -1,5 +1,5 @@
 use Rattle.plays.proofs.PlaysLaws.{answer-is}
-use mathlib.Core.Path.{ap, _∙_}
+use mathlib.Core.Path.{_∙_}
 use Rattle.calls.specs.Calls.{finishes}
 use Rattle.plays.specs.Plays.{finishPlayed, stream}
 use borrow.Author.Needs.{needs}

@@ -1,6 +1,5 @@
 use Rattle.session.specs.Names.{actionText}
 use Rattle.spelling.proofs.CaseLaws.{at-case}
-use Rattle.spelling.specs.Text.{putAll}
 use Rattle.wishes.specs.declared.outcome.Action.{Action}
 use borrow.Author.Needs.{needs}
 use Rattle.spelling.proofs.words.put_action.Statement.{statement}

@@ -1,6 +1,6 @@
 use Rattle.written.proofs.EditsLaws.{edited-length, parts-edited, titles-between}
 use native.Mathlib.Omega.{arith}
-use mathlib.Core.Path.{_≡_, refl, ap, _∙_}
+use mathlib.Core.Path.{_≡_, ap, _∙_}
 use mathlib.Core.List.{List, _++_}
 use Prim.Native.Nat.{ℕ}
 use lib.ListN.{drop, length, length-drop, take}

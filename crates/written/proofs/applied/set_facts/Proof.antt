@@ -1,5 +1,5 @@
 use Rattle.written.proofs.EditsLaws.{at-case}
-use mathlib.Core.Path.{refl, ap, sym}
+use mathlib.Core.Path.{ap}
 use mathlib.Core.List.{List}
 use Prim.Native.Nat.{ℕ}
 use lib.ListN.{set}

@@ -1,6 +1,6 @@
 use Rattle.written.proofs.EditsLaws.{place-end, place-here, place-next}
 use native.Mathlib.Omega.{arith}
-use mathlib.Core.Path.{_≡_, refl}
+use mathlib.Core.Path.{_≡_}
 use mathlib.Core.List.{[]}
 use Prim.Native.Nat.{_+_, _-_, _≤_}
 use lib.ListN.{drop, take}

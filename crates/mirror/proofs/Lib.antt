@@ -1,0 +1,2 @@
+pub mod HeldLaws
+pub mod HostTheorems
