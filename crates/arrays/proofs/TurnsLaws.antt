@@ -11,7 +11,6 @@ use Rattle.numbers.specs.Choose.{pick}
 use Rattle.text.specs.Names.{emptyName}
 use Rattle.text.specs.declared.ids.StreamId.{StreamId}
 use Rattle.metadata.specs.Metadata.{noMetadata}
-use Rattle.metadata.specs.declared.metadata.StreamMetadata.{StreamMetadata}
 use Rattle.record.specs.Clock.{timeOf}
 use Rattle.answers.specs.Sending.{sent}
 use Rattle.answers.specs.declared.sent.Sent.{Sent}
@@ -131,8 +130,8 @@ module _ (facts : List ℕ) (streams requests names : List (List ℕ)) where
           (λ i. ((k i, w i), o)) ∙ ap (λ (y : Answer). turned also before (y, o)) z ∙ ap (turned also before) closes
 
 -- ---- what is told
-pub told-frame : (s : Session) (f g : Frame) (m : StreamMetadata) → f ≡ g → m ≡ noMetadata → (t : ℕ × Shown) → t ≡ toldOf Done (f .event) (f .app) (f .key) m 0 → t ≡ told (frameAnswer s g)
-told-frame s f g m q k t e = e ∙ (λ i. toldOf Done (q i .event) (q i .app) (q i .key) (k i) 0)
+pub told-frame : (s : Session) (f g : Frame) → f ≡ g → (t : ℕ × Shown) → t ≡ toldOf Done (f .event) (f .app) (f .key) noMetadata 0 → t ≡ told (frameAnswer s g)
+told-frame s f g q t e = e ∙ (λ i. toldOf Done (q i .event) (q i .app) (q i .key) noMetadata 0)
 
 -- ---- by the type: one that is read, audio, video, or none of these
 read-is : {A : Type 0} {B : Type 0} (f : A → B) (x y z : A) (o : B) (a b c : Bool) → a || (b || c) ≡ true → f (pick a x (pick b y z)) ≡ pick a (f x) (pick b (f y) (pick c (f z) o))

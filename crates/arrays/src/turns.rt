@@ -6,9 +6,8 @@ use desks::frame_in;
 use desks::is_read;
 use image::image_sound;
 use image::types_say;
-use metadata::no_metadata;
-use parts::tell;
 use parts::tell_decision;
+use parts::tell_plain;
 use parts::tell_quiet;
 use record::time_of;
 use replies::write_reply;
@@ -181,18 +180,7 @@ fn tell_frame(
     let shown = frame.event;
     let app = frame.app;
     let key = frame.key;
-    let metadata = no_metadata();
-    tell(
-        numbers,
-        described,
-        words,
-        Outcome::Done,
-        shown,
-        app,
-        key,
-        metadata,
-        0,
-    )
+    tell_plain(numbers, described, words, Outcome::Done, shown, app, key, 0)
 }
 
 // The type alone picks the treatment.

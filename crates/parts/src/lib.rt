@@ -9,6 +9,6 @@ pub use events::event_numbers;
 pub use metadatas::metadata_of;
 pub use shown::show_media;
 pub use told::is_set;
-pub use told::tell;
 pub use told::tell_decision;
+pub use told::tell_plain;
 pub use told::tell_quiet;

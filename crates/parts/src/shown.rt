@@ -8,6 +8,7 @@ use text::Name;
 use wishes::Outcome;
 use wishes::number_of;
 ghost use mathlib.Core.Path.{_≡_};
+ghost use Rattle.metadata.specs.Metadata.{noMetadata};
 ghost use Rattle.parts.specs.Parts.{answerNumbers, mediaShown, shownParts};
 
 fn answer_numbers(
@@ -64,6 +65,28 @@ pub fn show_answer(
     let w = [app_bytes, key_bytes, encoder_bytes];
     *numbers = a;
     *described = m;
+    *words = w;
+}
+
+// The same with no metadata: nothing is turned into numbers.
+pub fn show_plain(
+    numbers: &mut [u64; 16],
+    described: &mut [[u64; 11]; 2],
+    words: &mut [[u8; 128]; 3],
+    outcome: Outcome,
+    event: Event,
+    app: Name,
+    key: Name,
+    count: usize,
+)
+    ensures { λ r. ⌜ (now (numbers .exit), (now (described .exit), now (words .exit))) ≡ shownParts outcome event app key noMetadata count ⌝ }
+{
+    let app_bytes = app.bytes;
+    let key_bytes = key.bytes;
+    let a = answer_numbers(outcome, event, app.len, key.len, count);
+    let w = [app_bytes, key_bytes, [0; 128]];
+    *numbers = a;
+    *described = [[0; 11]; 2];
     *words = w;
 }
 

@@ -1,7 +1,7 @@
 // What a call tells.
 use crate::shown::show_answer;
+use crate::shown::show_plain;
 use metadata::StreamMetadata;
-use metadata::no_metadata;
 use session::Decision;
 use session::Event;
 use text::Name;
@@ -25,7 +25,7 @@ pub fn is_set(n: u32) -> bool
 }
 
 // The parts, and the outcome's number.
-pub fn tell(
+fn tell(
     numbers: &mut [u64; 16],
     described: &mut [[u64; 11]; 2],
     words: &mut [[u8; 128]; 3],
@@ -52,6 +52,23 @@ pub fn tell(
     number_of(outcome)
 }
 
+// The same with no metadata.
+pub fn tell_plain(
+    numbers: &mut [u64; 16],
+    described: &mut [[u64; 11]; 2],
+    words: &mut [[u8; 128]; 3],
+    outcome: Outcome,
+    event: Event,
+    app: Name,
+    key: Name,
+    count: usize,
+) -> u32
+    ensures { λ r. ⌜ (r, (now (numbers .exit), (now (described .exit), now (words .exit)))) ≡ toldOf outcome event app key noMetadata count ⌝ }
+{
+    show_plain(numbers, described, words, outcome, event, app, key, count);
+    number_of(outcome)
+}
+
 // With no event: a refusal, or done.
 pub fn tell_quiet(
     numbers: &mut [u64; 16],
@@ -63,8 +80,7 @@ pub fn tell_quiet(
     ensures { λ r. ⌜ (r, (now (numbers .exit), (now (described .exit), now (words .exit)))) ≡ toldOf outcome NoEvent emptyName emptyName noMetadata count ⌝ }
 {
     let empty = empty_name();
-    let metadata = no_metadata();
-    tell(
+    tell_plain(
         numbers,
         described,
         words,
@@ -72,7 +88,6 @@ pub fn tell_quiet(
         Event::NoEvent,
         empty,
         empty,
-        metadata,
         count,
     )
 }

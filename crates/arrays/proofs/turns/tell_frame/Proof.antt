@@ -10,5 +10,4 @@ tell-frame-spec =
     (tie.spec
     (λ c κs. search needs)
     (λ c κs. search needs)
-    (λ c κs. search needs)
-    (λ c. let a = c .before .before .before .before .before .before .before .before .args in told-frame (sessionAt (a .facts .now) (a .streams .now) (a .requests .now) (a .names .now)) _ _ _ (c .before .before .before .before .before .before .before .frame-in .ensures) (c .before .before .before .before .no-metadata .ensures) _ (c .tell .ensures)))
+    (λ c. let a = c .before .before .before .before .before .before .before .args in told-frame (sessionAt (a .facts .now) (a .streams .now) (a .requests .now) (a .names .now)) _ _ (c .before .before .before .before .before .before .frame-in .ensures) _ (c .tell-plain .ensures)))

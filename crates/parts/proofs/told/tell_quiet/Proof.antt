@@ -9,5 +9,4 @@ tell-quiet-spec =
     (tie.spec
     (λ c κs. search needs)
     (λ c κs. search needs)
-    (λ c κs. search needs)
-    (λ c. told-quiet _ _ _ _ _ (c .before .before .before .before .before .empty-name .ensures) (c .before .before .before .before .before .empty-name .ensures) (c .before .before .before .before .no-metadata .ensures) _ (c .tell .ensures)))
+    (λ c. told-quiet _ _ _ _ (c .before .before .before .before .empty-name .ensures) (c .before .before .before .before .empty-name .ensures) _ (c .tell-plain .ensures)))
