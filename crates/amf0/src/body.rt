@@ -5,7 +5,7 @@ ghost use Rattle.amf0.specs.Bodies.{checked, place_of};
 use crate::skip::{NESTED, Skip, skip_value};
 
 // Whole; or refusal 2; or refusal 3.
-#[derive(Drop)]
+#[derive(Clone, Copy)]
 pub enum Checked {
     Whole,
     Bad,

@@ -6,7 +6,7 @@ ghost use Rattle.amf0.specs.Reading.{read_at};
 use crate::skip::{NESTED, Skip, skip_value};
 use crate::value::{Read, read_value};
 
-#[derive(Drop)]
+#[derive(Clone, Copy)]
 pub struct Cursor {
     pub at: usize,
 }

@@ -2,6 +2,8 @@
 //
 // A body is checked whole once (`check_body`), and read from then on by places. Every reader has an answer for
 // every body and every place; the writers are inner ones, and ask their callers for room.
+#![tactic(auto)]
+
 mod body;
 mod cursor;
 mod plain;

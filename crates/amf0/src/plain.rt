@@ -6,7 +6,7 @@ use crate::property::{Found, last_property};
 use crate::value::{Amf0Value, read_value};
 use numbers::u64_at;
 
-#[derive(Drop)]
+#[derive(Clone, Copy)]
 pub enum Plain {
     Bits(u64),
     Boolean(bool),

@@ -8,7 +8,7 @@ use crate::value::{Extent, NameAt, extent_at, read_name};
 use text::is_word;
 
 // Where the property's value stands.
-#[derive(Drop)]
+#[derive(Clone, Copy)]
 pub enum Found {
     At(usize),
     Missing,

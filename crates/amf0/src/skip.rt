@@ -9,7 +9,7 @@ use numbers::u32_at;
 pub const NESTED: usize = 8;
 
 // The next place; or not whole AMF0 (refusal 2); or a container inside eight others (refusal 3).
-#[derive(Drop)]
+#[derive(Clone, Copy)]
 pub enum Skip {
     Next(usize),
     Bad,

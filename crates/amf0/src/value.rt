@@ -6,7 +6,7 @@ ghost use Rattle.amf0.specs.Reading.{by_marker, extent, extent_at, held, name_at
 use numbers::{byte_at, f64_of, u16_at, u32_at, u64_at};
 
 // A value with its places in the body. Echoed number bits are read again, as eight bytes past the marker.
-#[derive(Drop)]
+#[derive(Clone, Copy)]
 pub enum Amf0Value {
     Number(f64),
     Boolean(bool),
@@ -22,14 +22,14 @@ pub enum Amf0Value {
 }
 
 // `next` is where the value ends, or of a container where what it holds begins, its count if it has one.
-#[derive(Drop)]
+#[derive(Clone, Copy)]
 pub struct Read {
     pub value: Amf0Value,
     pub next: usize,
 }
 
 // How far what was read goes: it ends at a place, or holds something from a place on.
-#[derive(Drop)]
+#[derive(Clone, Copy)]
 pub enum Extent {
     Ends(usize),
     Pairs(usize),
@@ -39,7 +39,7 @@ pub enum Extent {
 }
 
 // What stands where a property's name is expected.
-#[derive(Drop)]
+#[derive(Clone, Copy)]
 pub enum NameAt {
     End(usize),
     Value(usize),

@@ -2,6 +2,8 @@
 //
 // One public function an answer: it knows the whole length before the first byte is written, and writes all of its
 // records or nothing. What it writes is a definition of the crate record, specs/Records.antt.
+#![tactic(auto)]
+
 mod answers;
 mod sent;
 

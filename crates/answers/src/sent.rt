@@ -3,7 +3,7 @@ ghost use Rattle.std.specs.Prelude.{◌≡◌};
 ghost use Rattle.answers.specs.Sending.{all_sent, no_room};
 
 // Whether the buffer was long enough, and how many bytes were written to its front.
-#[derive(Drop)]
+#[derive(Clone, Copy)]
 pub struct Sent {
     pub fits: bool,
     pub count: usize,

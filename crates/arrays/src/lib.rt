@@ -3,6 +3,8 @@
 // No session is made of the arrays: the decision is made of what it looks at (crate desks), its records are written, and
 // what it changes is written into the arrays (crate written). Arrays that hold no session are refusal 15, and stay as
 // they are.
+#![tactic(auto)]
+
 mod starts;
 mod turns;
 

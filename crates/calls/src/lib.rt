@@ -2,6 +2,8 @@
 //
 // A call takes a session by value, what came in, a clock reading and a lent out buffer. It hands back one answer, with
 // the next session in it where there is one, and has written the answer's records to the front of the buffer.
+#![tactic(auto)]
+
 mod application;
 mod starts;
 

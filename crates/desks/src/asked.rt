@@ -10,7 +10,7 @@ use text::{RequestId, StreamId};
 use wishes::{Wish, command_wish, control_wish, data_wish};
 
 // A message of a type and on a stream, or the application's answer.
-#[derive(Drop)]
+#[derive(Clone, Copy)]
 pub enum Asked {
     Said { kind: u8, stream: StreamId },
     Accept(RequestId),

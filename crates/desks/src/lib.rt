@@ -1,5 +1,7 @@
 // The second room over the four arrays of a host (crate image): what a decision looks at is read from them, and nothing
 // else of the session.
+#![tactic(auto)]
+
 mod asked;
 mod desks;
 mod frames;

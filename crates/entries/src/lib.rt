@@ -1,4 +1,6 @@
 // The entries of a trace: which call one is, where it ends, and whether it is good.
+#![tactic(auto)]
+
 mod entry;
 mod kinds;
 

@@ -2,6 +2,8 @@
 //
 // A session is four arrays (crate image), an answer three (crate parts). Every call hands back document 01's number.
 // Nothing that stands in the arrays is trusted: a session that a host damaged is refusal 15.
+#![tactic(auto)]
+
 mod calls_out;
 mod frames;
 mod sends_out;

@@ -2,6 +2,8 @@
 //
 // A host has no enums, so each case has a number. Whatever stands in the arrays is some session, or is found not to be
 // one: nothing that a host writes into them is trusted.
+#![tactic(auto)]
+
 mod cases;
 mod reading;
 mod shape;

@@ -10,14 +10,14 @@ use streams::{Frame, frame_of};
 use text::{Name, StreamId, empty_name};
 use wishes::{Outcome, Wish, command_wish, control_wish, data_wish};
 
-#[derive(Drop)]
+#[derive(Clone, Copy)]
 pub enum MediaKind {
     Audio,
     Video,
 }
 
 // Of an audio or a video message: the session stays as it was, and nothing is written.
-#[derive(Drop)]
+#[derive(Clone, Copy)]
 pub struct MediaAnswer {
     pub outcome: Outcome,
     pub event: Event,

@@ -1,4 +1,6 @@
 // The eleven properties that a stream may advertise: read from an object of a body, and written as one record.
+#![tactic(auto)]
+
 mod metadata;
 mod reading;
 mod writing;

@@ -4,7 +4,7 @@ ghost use Rattle.metadata.specs.Metadata.{no_metadata};
 
 use text::{Name, empty_name};
 
-#[derive(Drop)]
+#[derive(Clone, Copy)]
 pub struct StreamMetadata {
     pub has_video_width: bool,
     pub has_video_height: bool,

@@ -9,26 +9,26 @@ use amf0::{Plain, plain_property};
 use numbers::{f32_of, u32_of};
 use text::{Name, empty_name, part_of, read_name};
 
-#[derive(Drop)]
+#[derive(Clone, Copy)]
 pub struct Whole {
     pub set: bool,
     pub value: u32,
 }
 
-#[derive(Drop)]
+#[derive(Clone, Copy)]
 pub struct Rate {
     pub set: bool,
     pub value: f32,
 }
 
-#[derive(Drop)]
+#[derive(Clone, Copy)]
 pub struct Flag {
     pub set: bool,
     pub value: bool,
 }
 
 // `fits` is false of a text over 128 bytes alone.
-#[derive(Drop)]
+#[derive(Clone, Copy)]
 pub struct Encoder {
     pub set: bool,
     pub fits: bool,
@@ -36,7 +36,7 @@ pub struct Encoder {
 }
 
 // An encoder over 128 bytes is told apart; the metadata beside it has none.
-#[derive(Drop)]
+#[derive(Clone, Copy)]
 pub struct MetadataRead {
     pub encoder_fits: bool,
     pub metadata: StreamMetadata,

@@ -1,5 +1,7 @@
 // Reads metadata, writes its fields and its record, and reads that record again, for each line of standard input.
 // A line is `m`, an AMF0 body's length in four hexadecimal digits, and the body's. The body's first value is the metadata.
+#![tactic(auto)]
+
 mod digits;
 mod fields;
 mod sending;

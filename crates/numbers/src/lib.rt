@@ -3,6 +3,8 @@
 // A number that is echoed stays the same 64 bits, so every conversion takes and gives bits; an `f64` or
 // an `f32` is made only where a value is compared or held. Every conversion and every reader has an answer for
 // every input; the writers are inner ones, and ask their callers for room.
+#![tactic(auto)]
+
 mod fields;
 mod play;
 mod single;

@@ -6,7 +6,7 @@ use crate::single::f64_of;
 use crate::whole::u32_of;
 
 // The Rust's name and cases.
-#[derive(Drop)]
+#[derive(Clone, Copy)]
 pub enum PlayStartValue {
     LiveOrRecorded,
     LiveOnly,
@@ -14,7 +14,7 @@ pub enum PlayStartValue {
 }
 
 // The Rust's Option<u32>.
-#[derive(Drop)]
+#[derive(Clone, Copy)]
 pub enum PlayDuration {
     Unlimited,
     Seconds(u32),

@@ -1,4 +1,6 @@
 // The parts of an answer as numbers and bytes, for a host that has no enums.
+#![tactic(auto)]
+
 mod events;
 mod metadatas;
 mod outcomes;

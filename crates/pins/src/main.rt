@@ -1,5 +1,7 @@
 // Runs the number pins of the bench plate, a few fields, words and names, and then the vectors on standard input.
 // A vector is a line: `d` and a double's 16 hexadecimal digits; or `b`, an AMF0 body's length in four digits, and the body's.
+#![tactic(auto)]
+
 mod body;
 mod digits;
 mod show;

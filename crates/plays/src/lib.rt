@@ -1,4 +1,6 @@
 // The calls of a trace, each with its fields read from an entry, and the text that is written for it.
+#![tactic(auto)]
+
 mod sends;
 mod turns;
 

@@ -9,7 +9,7 @@ use session::Session;
 use text::{RequestId, StreamId, part_of};
 
 // The session after an entry, and how many bytes of text were put into the line.
-#[derive(Drop)]
+#[derive(Clone, Copy)]
 pub struct Turn {
     pub session: Session,
     pub count: usize,

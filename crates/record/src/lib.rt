@@ -2,6 +2,8 @@
 //
 // Every record is a definition of specs/Records.antt. The writers ask their callers for room; the crate answers
 // tests it once for all records of an answer.
+#![tactic(auto)]
+
 mod clock;
 mod control;
 mod header;

@@ -11,7 +11,7 @@ use spelling::{put_field, put_word};
 use text::text_of;
 
 // `taken` is how many bytes of the trace were played, `count` how many of the line are its text.
-#[derive(Drop)]
+#[derive(Clone, Copy)]
 pub struct Next {
     pub more: bool,
     pub session: Session,

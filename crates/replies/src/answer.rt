@@ -9,7 +9,7 @@ use text::{Name, empty_name};
 use wishes::Outcome;
 
 // The event's names and metadata stand beside it, empty where it has none. `count` bytes were written.
-#[derive(Drop)]
+#[derive(Clone, Copy)]
 pub struct Answer {
     pub outcome: Outcome,
     pub event: Event,

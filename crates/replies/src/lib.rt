@@ -1,4 +1,6 @@
 // The third room: the records of a decision, all of them or none, and the answer of the call.
+#![tactic(auto)]
+
 mod answer;
 mod replies;
 

@@ -6,14 +6,14 @@ use answers::Sent;
 use wishes::Outcome;
 
 // Of a send: the session stays as it was.
-#[derive(Drop)]
+#[derive(Clone, Copy)]
 pub struct SendAnswer {
     pub outcome: Outcome,
     pub count: usize,
 }
 
 // Of a ping request, with the number that was sent.
-#[derive(Drop)]
+#[derive(Clone, Copy)]
 pub struct PingAnswer {
     pub outcome: Outcome,
     pub count: usize,

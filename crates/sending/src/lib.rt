@@ -1,5 +1,7 @@
 // The sends of a session: metadata, audio, video and a ping request. Each takes a session by value and leaves it as it
 // is: the door, and then the one record.
+#![tactic(auto)]
+
 mod answer;
 mod sends;
 

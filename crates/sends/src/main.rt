@@ -1,5 +1,7 @@
 // Writes every record once, and the refusals for room, with the bytes in hexadecimal. A line is a name, the written
 // count and the bytes; `none` where nothing was written; `spilt` where a byte past the count is no longer A5.
+#![tactic(auto)]
+
 mod show;
 
 use show::show;

@@ -11,7 +11,7 @@ use tables::{
 use text::{Name, RequestId, StreamId};
 
 // An enum can't hold an array: the stream and the request stand beside it.
-#[derive(Drop)]
+#[derive(Clone, Copy)]
 pub enum Effect {
     Nothing,
     StreamMade,
@@ -25,7 +25,7 @@ pub enum Effect {
 }
 
 // What an effect does not use is blank.
-#[derive(Drop)]
+#[derive(Clone, Copy)]
 pub struct Change {
     pub effect: Effect,
     pub stream: Stream,

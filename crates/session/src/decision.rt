@@ -9,7 +9,7 @@ use text::{Name, PublishMode, RequestId, StreamId, empty_name};
 use wishes::Outcome;
 
 // The Rust's events. The app, the key and the metadata stand beside the event.
-#[derive(Drop)]
+#[derive(Clone, Copy)]
 pub enum Event {
     NoEvent,
     ConnectionRequested(RequestId),
@@ -39,7 +39,7 @@ pub enum Event {
 }
 
 // Why a command is answered by an error record.
-#[derive(Drop)]
+#[derive(Clone, Copy)]
 pub enum CommandFault {
     PublishFew,
     PublishUnconnected,
@@ -49,7 +49,7 @@ pub enum CommandFault {
 }
 
 // What is to be written. A key or an app stands beside it.
-#[derive(Drop)]
+#[derive(Clone, Copy)]
 pub enum Reply {
     Nothing,
     StreamCreated {
@@ -75,7 +75,7 @@ pub enum Reply {
 }
 
 // `app`, `key` and `metadata` belong to the event, `name` to the reply; what is not used is empty.
-#[derive(Drop)]
+#[derive(Clone, Copy)]
 pub struct Decision {
     pub outcome: Outcome,
     pub event: Event,

@@ -7,7 +7,7 @@ use crate::session::{Session, is_connected};
 use tables::{RequestFound, StreamFound, find_request, find_stream};
 use text::{Name, RequestId, StreamId};
 
-#[derive(Drop)]
+#[derive(Clone, Copy)]
 pub struct Desk {
     pub connected: bool,
     pub app: Name,

@@ -1,5 +1,7 @@
 // The session by value: refusal 15, what a decision looks at and what it may change, and the shapes of a decision. No
 // bytes of a message, and none of a record.
+#![tactic(auto)]
+
 mod changes;
 mod decision;
 mod desk;

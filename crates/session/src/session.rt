@@ -5,14 +5,14 @@ ghost use Rattle.session.specs.State.{app_fits, connected, fresh_session, sessio
 use tables::{Request, Stream, no_request, no_stream, requests_sound, streams_sound};
 use text::{Name, empty_name};
 
-#[derive(Drop)]
+#[derive(Clone, Copy)]
 pub enum SessionState {
     Started,
     Connected,
 }
 
 // The app counts where `has_app` is set. Of each table the first `.._count` places are in use.
-#[derive(Drop)]
+#[derive(Clone, Copy)]
 pub struct Session {
     pub start: u64,
     pub version: Name,

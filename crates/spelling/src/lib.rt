@@ -1,4 +1,6 @@
 // How a trace spells numbers, bytes, names and the cases of small enums.
+#![tactic(auto)]
+
 mod bytes;
 mod words;
 

@@ -18,7 +18,7 @@ use text::{Name, PublishMode, RequestId, StreamId, empty_name};
 use wishes::{Outcome, PlayArguments, PublishArguments};
 
 // Whether a request can be filed, or why not.
-#[derive(Drop)]
+#[derive(Clone, Copy)]
 pub enum Room {
     Open,
     Closed(Outcome),

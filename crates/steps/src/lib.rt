@@ -1,4 +1,6 @@
 // The second room, messages: what a session makes of a wish. A desk and a wish in, a decision out.
+#![tactic(auto)]
+
 mod commands;
 mod deciding;
 

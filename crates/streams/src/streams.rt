@@ -12,7 +12,7 @@ use text::{Name, PublishMode, StreamId, empty_name};
 use wishes::Outcome;
 
 // An audio or a video event with its names; the session stays as it is.
-#[derive(Drop)]
+#[derive(Clone, Copy)]
 pub struct Frame {
     pub event: Event,
     pub app: Name,

@@ -3,6 +3,8 @@
 // The entries in use stand first, as many as the count says. An append goes to the end, a removal moves the later
 // ones up and leaves a blank place behind them. A count that is handed in may be any number: what lies past the
 // sixteenth place is not there.
+#![tactic(auto)]
+
 mod places;
 mod requests;
 mod streams;

@@ -6,7 +6,7 @@ ghost use Rattle.tables.specs.Tables.{Stands, has, look, removed, rises_from, sh
 use crate::places::{Place, in_use};
 use text::{Name, PublishMode, RequestId, StreamId, empty_name};
 
-#[derive(Drop)]
+#[derive(Clone, Copy)]
 pub enum RequestKind {
     Connect,
     Publish,
@@ -15,7 +15,7 @@ pub enum RequestKind {
 
 // What is asked for: of a connect, the app as the name and its transaction, on stream 0; of a publish or a play, the
 // key, and of a publish the mode. What a kind does not use is 0 or Live.
-#[derive(Drop)]
+#[derive(Clone, Copy)]
 pub struct Request {
     pub id: RequestId,
     pub kind: RequestKind,
@@ -25,7 +25,7 @@ pub struct Request {
     pub name: Name,
 }
 
-#[derive(Drop)]
+#[derive(Clone, Copy)]
 pub struct RequestFound {
     pub found: bool,
     pub request: Request,

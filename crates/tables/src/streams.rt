@@ -7,7 +7,7 @@ use crate::places::{Place, in_use};
 use text::{Name, PublishMode, StreamId, empty_name};
 
 // The Rust's states. A key stands beside its state, since an enum can't hold an array.
-#[derive(Drop)]
+#[derive(Clone, Copy)]
 pub enum StreamState {
     Created,
     Publishing,
@@ -16,7 +16,7 @@ pub enum StreamState {
 }
 
 // The mode is that of a publishing stream, and Live else. A created or completed stream has an empty key.
-#[derive(Drop)]
+#[derive(Clone, Copy)]
 pub struct Stream {
     pub id: StreamId,
     pub state: StreamState,
@@ -25,7 +25,7 @@ pub struct Stream {
 }
 
 // The stream beside whether there is one; a blank one where there is none.
-#[derive(Drop)]
+#[derive(Clone, Copy)]
 pub struct StreamFound {
     pub found: bool,
     pub stream: Stream,

@@ -26,7 +26,7 @@ unfoldable pub which : {X : Type 0} → List (List ℕ × X) → X → List ℕ 
 which [] other s = other
 which ((w, x) ∷ ws) other s = pick (same s w) x (which ws other s)
 
--- "Commands known: `connect`, `create_stream`, `close_stream`, `delete_stream`, `publish`, `play`; others do nothing."
+-- "Commands known: `connect`, `createStream`, `closeStream`, `deleteStream`, `publish`, `play`; others do nothing."
 abbrev pub command_of : List ℕ → Command
 command_of =
     which

@@ -1,10 +1,10 @@
 // A stream number and a request number are both u32, and no call can take one for the other.
 ghost use Rattle.std.specs.Prelude.{◌≡◌, eqb};
 
-#[derive(Drop)]
+#[derive(Clone, Copy)]
 pub struct StreamId(pub u32);
 
-#[derive(Drop)]
+#[derive(Clone, Copy)]
 pub struct RequestId(pub u32);
 
 impl StreamId {

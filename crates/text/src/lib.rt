@@ -1,4 +1,6 @@
 // Names and texts: a name of at most 128 bytes by value, fixed words, and the two numbers that are kept apart by type.
+#![tactic(auto)]
+
 mod ids;
 mod names;
 mod words;

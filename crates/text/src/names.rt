@@ -8,14 +8,14 @@ use numbers::write_bytes;
 
 // The text is the first `len` bytes. In every name made here the bytes past them are zeros. A name that
 // is handed in may say any length: its text ends with its bytes.
-#[derive(Drop)]
+#[derive(Clone, Copy)]
 pub struct Name {
     pub bytes: [u8; 128],
     pub len: usize,
 }
 
 // An enum can't hold an array, so the answer stands beside the name, which is the empty one where the text does not fit.
-#[derive(Drop)]
+#[derive(Clone, Copy)]
 pub struct NameRead {
     pub fits: bool,
     pub name: Name,

@@ -20,7 +20,7 @@ pub fn is_word(part: &[u8], word: &[u8]) -> bool
 }
 
 // The commands that are known. Any other does nothing.
-#[derive(Drop)]
+#[derive(Clone, Copy)]
 pub enum Command {
     Connect,
     CreateStream,
@@ -56,14 +56,14 @@ pub fn command_of(name: &[u8]) -> Command
 }
 
 // How a stream is published: the Rust's cases.
-#[derive(Drop)]
+#[derive(Clone, Copy)]
 pub enum PublishMode {
     Live,
     Append,
     Record,
 }
 
-#[derive(Drop)]
+#[derive(Clone, Copy)]
 pub enum ModeWord {
     Mode(PublishMode),
     Other,

@@ -1,4 +1,6 @@
 // Reads a trace on standard input, and writes its text.
+#![tactic(auto)]
+
 mod window;
 
 use libc::STDOUT_FILENO;
@@ -8,7 +10,7 @@ use text::{part_of, text_of};
 use window::{Window, in_window, move_on, new_window, refill};
 
 // `entry` is the number of the next one, from 1.
-#[derive(Drop)]
+#[derive(Clone, Copy)]
 struct Run {
     more: bool,
     window: Window,

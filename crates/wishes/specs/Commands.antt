@@ -17,7 +17,7 @@ use Rattle.wishes.specs.declared.wish.Wish.{Wish}
 unfoldable pub begins_command : List ℕ → Bool
 begins_command s = is_text (value_of s 0) && (is_number (value_of s 1) && is_there (value_of s 2))
 
--- "Commands known: `connect`, `create_stream`, `close_stream`, `delete_stream`, `publish`, `play`; others do nothing."
+-- "Commands known: `connect`, `createStream`, `closeStream`, `deleteStream`, `publish`, `play`; others do nothing."
 abbrev pub known_command : List ℕ → ℕ → Command → Wish
 known_command s transaction Connect = connect_wish s transaction
 known_command s transaction CreateStream = just_want (MakeStream transaction)

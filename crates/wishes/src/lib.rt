@@ -1,4 +1,6 @@
 // The first room: what a message wants, read from its bytes with no look at a session.
+#![tactic(auto)]
+
 mod commands;
 mod connect;
 mod control;

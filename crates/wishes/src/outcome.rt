@@ -5,14 +5,14 @@ ghost use Rattle.wishes.specs.Outcome.{number_of};
 use text::StreamId;
 
 // What refusal 11 names.
-#[derive(Drop)]
+#[derive(Clone, Copy)]
 pub enum Action {
     Publish,
     Play,
     Complete,
 }
 
-#[derive(Drop)]
+#[derive(Clone, Copy)]
 pub enum Outcome {
     Done,
     BodyTooLong,

@@ -11,7 +11,7 @@ use text::{Name, PublishMode, StreamId, empty_name, read_name};
 pub const LONGEST_BODY: usize = 4096;
 
 // The arguments of a publish, up to the first that is wrong.
-#[derive(Drop)]
+#[derive(Clone, Copy)]
 pub enum PublishArguments {
     TooFew,
     KeyNoString,
@@ -20,7 +20,7 @@ pub enum PublishArguments {
     Good(PublishMode),
 }
 
-#[derive(Drop)]
+#[derive(Clone, Copy)]
 pub enum PlayArguments {
     TooFew,
     KeyNoString,
@@ -31,7 +31,7 @@ pub enum PlayArguments {
     },
 }
 
-#[derive(Drop)]
+#[derive(Clone, Copy)]
 pub enum Want {
     Nothing,
     // One of the refusals 1 to 5.
@@ -60,7 +60,7 @@ pub enum Want {
 
 // A want with what an enum can't hold: the app or the key, or the metadata. `fits` is false where that name, or the
 // metadata's encoder, is over 128 bytes; the name or the encoder is then empty.
-#[derive(Drop)]
+#[derive(Clone, Copy)]
 pub struct Wish {
     pub want: Want,
     pub fits: bool,

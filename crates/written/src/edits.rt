@@ -5,7 +5,7 @@ ghost use Rattle.tables.specs.Tables.{shifted};
 ghost use Rattle.written.specs.Edits.{edited, place_in, row_id};
 ghost use Rattle.written.specs.Kept.{blank_bytes, request_row, stream_row};
 
-#[derive(Drop)]
+#[derive(Clone, Copy)]
 pub enum Edit {
     Same,
     Add,

@@ -1,4 +1,6 @@
 // A change made in the four arrays of a host (crate image): only what it is about is written.
+#![tactic(auto)]
+
 mod applied;
 mod edits;
 
