@@ -1,0 +1,5 @@
+use mathlib.Core.Path.{refl}
+use Rattle.damage.proofs.overwrite.numbered_stream.Goals as goal
+
+pub returns : goal.returns
+returns c = refl

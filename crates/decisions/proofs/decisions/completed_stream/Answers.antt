@@ -1,0 +1,4 @@
+use Rattle.decisions.proofs.decisions.completed_stream.Goals as goal
+
+pub returns : goal.returns
+returns c = rw c.empty_name-key.ensures

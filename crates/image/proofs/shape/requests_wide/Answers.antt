@@ -1,0 +1,12 @@
+use Rattle.image.proofs.RowsLaws.{wide_all, wide_next}
+use native.Mathlib.Omega.{arith}
+use Rattle.image.proofs.shape.requests_wide.Goals as goal
+
+pub loop-i-init : goal.loop-i-init
+loop-i-init c = (omega arith, tt)
+
+pub loop-i-preserved : goal.loop-i-preserved
+loop-i-preserved c = let a = c.args in let l = c.loop-i in (omega arith, wide_next 6 a.rows.now l.i (omega arith) l.invariant.1 c.six_wide.ensures)
+
+pub returns : goal.returns
+returns c = let a = c.args in let l = c.loop-i in wide_all 6 a.rows.now l.i (omega arith) l.invariant.1

@@ -1,0 +1,5 @@
+use Rattle.spelling.proofs.TextLaws.{put_then}
+use Rattle.lines.proofs.events.put_described.Goals as goal
+
+pub returns : goal.returns
+returns c = put_then _ _ _ _ _ c.put_finished-to.ensures c.put_metadata.ensures

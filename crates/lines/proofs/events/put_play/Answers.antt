@@ -1,0 +1,5 @@
+use Rattle.spelling.proofs.TextLaws.{put_then}
+use Rattle.lines.proofs.events.put_play.Goals as goal
+
+pub returns : goal.returns
+returns c = put_then _ _ _ _ _ c.put_field-a.ensures (put_then _ _ _ _ _ c.put_names-b.ensures (put_then _ _ _ _ _ c.put_range-c.ensures c.put_field.ensures))

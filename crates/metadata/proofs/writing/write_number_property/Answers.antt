@@ -1,0 +1,16 @@
+use native.Mathlib.Omega.{arith}
+use Rattle.amf0.specs.Grammar.{number}
+use Rattle.metadata.proofs.WritingLaws.{number_length, one_room, one_set, one_unset}
+use Rattle.metadata.proofs.writing.write_number_property.Goals as goal
+
+pub write_name_at-requires : goal.write_name_at-requires
+write_name_at-requires c = let a = c.args in let r = one_room a.name.now (number a.bits) _ (number_length a.bits) a.set c.if-set.true in (omega arith, omega arith)
+
+pub write_number_at-requires : goal.write_number_at-requires
+write_number_at-requires c = let a = c.args in let r = one_room a.name.now (number a.bits) _ (number_length a.bits) a.set c.if-set.true in omega arith
+
+pub returns-then-set : goal.returns-then-set
+returns-then-set c = let a = c.args in one_set a.name.now (number a.bits) _ (number_length a.bits) a.set a.at _ _ _ _ _ c.if-set.true c.write_name_at.ensures c.write_number_at.ensures (omega arith) (omega arith) (omega (arith, c.requires))
+
+pub returns : goal.returns
+returns c = let a = c.args in one_unset a.name.now (number a.bits) _ (number_length a.bits) a.set a.at _ c.if-set.false

@@ -1,0 +1,4 @@
+use Rattle.parts.proofs.shown.answer_numbers.Goals as goal
+
+pub returns : goal.returns
+returns c = rw (c.event_numbers-e.ensures, c.named_by-o.ensures, c.number_of-n.ensures)

@@ -1,0 +1,17 @@
+use native.Mathlib.Omega.{arith}
+use Rattle.amf0.specs.Grammar.{number, string}
+use Rattle.amf0.proofs.WriteTheorems.{length_encode}
+use Rattle.amf0.specs.Writing.{room}
+use Rattle.numbers.proofs.FieldsLaws.{run_as, run_start, run_then}
+use Rattle.record.proofs.ConnectLaws.{length_connected_status, length_version, row_pieces}
+use Rattle.record.proofs.status.write_connected_body_at.Goals as goal
+
+pub returns : goal.returns
+unfolding room
+returns c =
+    let pre = c.requires in
+    let r1 = run_then _ _ _ _ _ _ _ _ _ (run_start _ c.args.at) c.write_string_at.ensures (length_encode (string _)) (omega (arith, pre)) (omega (arith, pre)) in
+    let r2 = run_then _ _ _ _ _ _ _ _ _ r1 c.write_number_at.ensures (length_encode (number _)) (omega (arith, pre)) (omega (arith, pre)) in
+    let r3 = run_then _ _ _ _ _ _ _ _ _ r2 c.write_version_at.ensures (length_version _) (omega (arith, pre)) (omega (arith, pre)) in
+    let r4 = run_then _ _ _ _ _ _ _ _ _ r3 c.write_connected_status_at.ensures (length_connected_status _ _) (omega (arith, pre)) (omega (arith, pre)) in
+    run_as _ _ _ _ _ _ r4 (row_pieces _ _ _ _)

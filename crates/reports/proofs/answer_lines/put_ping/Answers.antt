@@ -1,0 +1,5 @@
+use Rattle.spelling.proofs.TextLaws.{put_then}
+use Rattle.reports.proofs.answer_lines.put_ping.Goals as goal
+
+pub returns : goal.returns
+returns c = put_then _ _ _ _ _ c.put_head-a.ensures (put_then _ _ _ _ _ c.put_number-b.ensures c.put_end.ensures)

@@ -1,0 +1,4 @@
+use Rattle.session.proofs.changes.with_request.Goals as goal
+
+pub returns : goal.returns
+returns c = rw (c.one_more.ensures, c.number_after.ensures, c.append_request-more.ensures)

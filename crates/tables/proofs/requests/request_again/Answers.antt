@@ -1,0 +1,17 @@
+use mathlib.Core.Path.{refl}
+use native.Mathlib.Omega.{arith}
+use Rattle.tables.specs.Entries.{request_number}
+use Rattle.tables.proofs.SoundLaws.{has_here, has_next, has_none}
+use Rattle.tables.proofs.requests.request_again.Goals as goal
+
+pub loop-i-init : goal.loop-i-init
+loop-i-init c = (omega arith, refl)
+
+pub returns-then-k-number : goal.returns-then-k-number
+returns-then-k-number c = let a = c.args in has_here request_number a.t1 a.n a.number c.loop-i.i _ c.loop-i.invariant.1 _ (omega arith) (omega arith) c.if-k-number.true
+
+pub loop-i-preserved : goal.loop-i-preserved
+loop-i-preserved c = let a = c.args in (omega arith, has_next request_number a.t1 a.n a.number c.loop-i.i _ c.loop-i.invariant.1 _ (omega arith) (omega arith) c.if-k-number.false)
+
+pub returns : goal.returns
+returns c = let a = c.args in has_none request_number a.t1 a.n a.number c.loop-i.i _ c.loop-i.invariant.1 (omega arith)

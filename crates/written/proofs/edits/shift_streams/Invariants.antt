@@ -1,0 +1,14 @@
+use mathlib.Core.Path.{◌≡◌}
+use Prim.Native.Nat.{◌-◌, ◌<◌}
+use lib.ListN.{length}
+use Rattle.tables.specs.Entries.{no_stream}
+use Rattle.tables.specs.Tables.{shifted}
+use Rattle.written.specs.Kept.{stream_row}
+use Rattle.written.proofs.edits.shift_streams.Given as goal
+
+-- what is left to move, moved, gives the whole
+abbrev pub invariant-loop-i : goal.invariant-loop-i
+invariant-loop-i l = (l.i < l.n) × ((length l.rows ≡ length l.initial.rows) × (shifted (stream_row no_stream) l.i l.n l.rows ≡ shifted (stream_row no_stream) l.p l.n l.initial.rows))
+
+abbrev pub decreases-loop-i : goal.decreases-loop-i
+decreases-loop-i l = l.n - l.i
