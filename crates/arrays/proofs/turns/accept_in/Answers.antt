@@ -1,17 +1,21 @@
-use borrow.Author.Tests.{not-false, not-true}
+use borrow.Author.Tests.{not-false}
 use mathlib.Core.Path.{refl, sym, ◌∙◌}
 use mathlib.Core.List.{[]}
 use Rattle.session.specs.declared.session.Session.{Session}
 use Rattle.decisions.specs.Answers.{accepted}
 use Rattle.replies.specs.Finishing.{finishing}
+use Rattle.arrays.specs.Turns.{keeps}
 use Rattle.arrays.proofs.TurnsLaws.{turn-open, turn_shut}
 use Rattle.arrays.proofs.turns.accept_in.Goals as goal
 
 pub returns-then-not-image_sound : goal.returns-then-not-image_sound
-returns-then-not-image_sound c = let a = c.args in turn_shut a.facts.now a.streams.now a.requests.now a.names.now 11 a.out.now (λ (z : Session). finishing z (accepted z (record { 0 = a.request })) [] [] a.clock a.out.now) _ c.image_sound.ensures refl (not-true _ c.if-not-image_sound.true) _ c.tell_quiet.ensures
+unfolding keeps
+returns-then-not-image_sound c = let a = c.args in turn_shut a.facts.now a.streams.now a.requests.now a.names.now 11 a.out.now (λ (z : Session). finishing z (accepted z (record { 0 = a.request })) [] [] a.clock a.out.now) _ c.image_sound.ensures refl c.if-not-image_sound.true _ c.tell_quiet.ensures
 
 pub conclude-requires : goal.conclude-requires
+unfolding keeps
 conclude-requires c = sym c.image_sound.ensures ∙ not-false _ c.if-not-image_sound.false
 
 pub returns : goal.returns
-returns c = let a = c.args in turn-open a.facts.now a.streams.now a.requests.now a.names.now 11 a.out.now (λ (z : Session). finishing z (accepted z (record { 0 = a.request })) [] [] a.clock a.out.now) _ c.image_sound.ensures (not-false _ c.if-not-image_sound.false) _ c.conclude.ensures
+unfolding keeps
+returns c = let a = c.args in turn-open a.facts.now a.streams.now a.requests.now a.names.now 11 a.out.now (λ (z : Session). finishing z (accepted z (record { 0 = a.request })) [] [] a.clock a.out.now) _ c.image_sound.ensures c.if-not-image_sound.false _ c.conclude.ensures

@@ -19,4 +19,4 @@ pub returns-in-9 : goal.returns-in-9
 returns-in-9 c = let a = c.args in stays_told a.facts.now a.streams.now a.requests.now a.names.now c.types_say.ensures c.requires 0 a.out.now (frame_answer (session_at a.facts.now a.streams.now a.requests.now a.names.now) (frame_of (session_at a.facts.now a.streams.now a.requests.now a.names.now) a.stream (VideoDataReceived a.timestamp))) _ refl c.tell_frame-in-9.ensures ∙ ap (turned 0 (a.facts.now, (a.streams.now, (a.requests.now, a.names.now)))) (type_9 (session_at a.facts.now a.streams.now a.requests.now a.names.now) a.kind a.stream a.timestamp a.clock a.body.now a.out.now (frame_answer (session_at a.facts.now a.streams.now a.requests.now a.names.now) (frame_of (session_at a.facts.now a.streams.now a.requests.now a.names.now) a.stream (VideoDataReceived a.timestamp))) (frame_of (session_at a.facts.now a.streams.now a.requests.now a.names.now) a.stream (VideoDataReceived a.timestamp)) refl refl c.in-9.is)
 
 pub returns-in_default : goal.returns-in_default
-returns-in_default c = let a = c.args in stays_told a.facts.now a.streams.now a.requests.now a.names.now c.types_say.ensures c.requires 0 a.out.now (idle (session_at a.facts.now a.streams.now a.requests.now a.names.now) 0) _ refl c.tell_quiet.ensures ∙ ap (turned 0 (a.facts.now, (a.streams.now, (a.requests.now, a.names.now)))) (type_none (session_at a.facts.now a.streams.now a.requests.now a.names.now) a.kind a.stream a.timestamp a.clock a.body.now a.out.now _ c.is_read.ensures c.if-is_read.false c.in_default.not-8 c.in_default.not-9)
+returns-in_default c = let a = c.args in stays_told a.facts.now a.streams.now a.requests.now a.names.now c.types_say.ensures c.requires 0 a.out.now (idle (session_at a.facts.now a.streams.now a.requests.now a.names.now) 0) _ refl c.tell_quiet.ensures ∙ ap (turned 0 (a.facts.now, (a.streams.now, (a.requests.now, a.names.now)))) (type_none (session_at a.facts.now a.streams.now a.requests.now a.names.now) a.kind a.stream a.timestamp a.clock a.body.now a.out.now _ c.is_read.ensures c.if-is_read.false (λ e. omega (arith, e)) (λ e. omega (arith, e)))

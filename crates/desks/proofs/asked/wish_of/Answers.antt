@@ -8,4 +8,4 @@ pub returns-in-18 : goal.returns-in-18
 returns-in-18 c = wish_18 _ _ _ c.data_wish.ensures c.in-18.is
 
 pub returns-in_default : goal.returns-in_default
-returns-in_default c = wish_20 _ _ _ c.command_wish.ensures c.in_default.not-4 c.in_default.not-18
+returns-in_default c = wish_20 _ _ _ c.command_wish.ensures (λ e. omega (arith, e)) (λ e. omega (arith, e))

@@ -1,4 +1,3 @@
-use borrow.Author.Tests.{not-false, not-true}
 use native.Mathlib.Omega.{arith}
 use mathlib.Core.Path.{refl}
 use Rattle.image.specs.Image.{request_readable}
@@ -9,10 +8,10 @@ pub loop-i-init : goal.loop-i-init
 loop-i-init c = (omega arith, refl)
 
 pub returns-then-not-request_readable : goal.returns-then-not-request_readable
-returns-then-not-request_readable c = let a = c.args in let l = c.loop-i in every_no request_readable a.rows.now a.n l.i _ l.invariant.1 (omega arith) (omega arith) _ c.request_readable.ensures (not-true _ c.if-not-request_readable.true)
+returns-then-not-request_readable c = let a = c.args in let l = c.loop-i in every_no request_readable a.rows.now a.n l.i _ l.invariant.1 (omega arith) (omega arith) _ c.request_readable.ensures c.if-not-request_readable.true
 
 pub loop-i-preserved : goal.loop-i-preserved
-loop-i-preserved c = let a = c.args in let l = c.loop-i in (omega arith, every_next request_readable a.rows.now a.n l.i _ l.invariant.1 (omega arith) (omega arith) _ c.request_readable.ensures (not-false _ c.if-not-request_readable.false))
+loop-i-preserved c = let a = c.args in let l = c.loop-i in (omega arith, every_next request_readable a.rows.now a.n l.i _ l.invariant.1 (omega arith) (omega arith) _ c.request_readable.ensures c.if-not-request_readable.false)
 
 pub returns : goal.returns
 returns c = let a = c.args in let l = c.loop-i in every_end request_readable a.rows.now a.n l.i _ l.invariant.1 (omega arith)

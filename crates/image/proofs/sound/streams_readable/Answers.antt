@@ -1,4 +1,3 @@
-use borrow.Author.Tests.{not-false, not-true}
 use native.Mathlib.Omega.{arith}
 use mathlib.Core.Path.{refl}
 use Rattle.image.specs.Image.{stream_readable}
@@ -9,10 +8,10 @@ pub loop-i-init : goal.loop-i-init
 loop-i-init c = (omega arith, refl)
 
 pub returns-then-not-stream_readable : goal.returns-then-not-stream_readable
-returns-then-not-stream_readable c = let a = c.args in let l = c.loop-i in every_no stream_readable a.rows.now a.n l.i _ l.invariant.1 (omega arith) (omega arith) _ c.stream_readable.ensures (not-true _ c.if-not-stream_readable.true)
+returns-then-not-stream_readable c = let a = c.args in let l = c.loop-i in every_no stream_readable a.rows.now a.n l.i _ l.invariant.1 (omega arith) (omega arith) _ c.stream_readable.ensures c.if-not-stream_readable.true
 
 pub loop-i-preserved : goal.loop-i-preserved
-loop-i-preserved c = let a = c.args in let l = c.loop-i in (omega arith, every_next stream_readable a.rows.now a.n l.i _ l.invariant.1 (omega arith) (omega arith) _ c.stream_readable.ensures (not-false _ c.if-not-stream_readable.false))
+loop-i-preserved c = let a = c.args in let l = c.loop-i in (omega arith, every_next stream_readable a.rows.now a.n l.i _ l.invariant.1 (omega arith) (omega arith) _ c.stream_readable.ensures c.if-not-stream_readable.false)
 
 pub returns : goal.returns
 returns c = let a = c.args in let l = c.loop-i in every_end stream_readable a.rows.now a.n l.i _ l.invariant.1 (omega arith)

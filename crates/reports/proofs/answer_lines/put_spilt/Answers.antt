@@ -1,9 +1,12 @@
 use mathlib.Core.Path.{sym, ◌∙◌}
 use Rattle.spelling.proofs.CaseLaws.{if_set, if_unset}
+use Rattle.reports.specs.AnswerLine.{spilt_text}
 use Rattle.reports.proofs.answer_lines.put_spilt.Goals as goal
 
 pub returns-then-untouched : goal.returns-then-untouched
+unfolding spilt_text
 returns-then-untouched c = if_set _ _ _ _ _ c.put_word.ensures (sym c.untouched.ensures ∙ c.if-untouched.true)
 
 pub returns : goal.returns
+unfolding spilt_text
 returns c = if_unset _ _ _ _ _ c.put_word-2.ensures (sym c.untouched.ensures ∙ c.if-untouched.false)

@@ -8,10 +8,10 @@ pub loop-i-init : goal.loop-i-init
 loop-i-init c = (omega arith, refl)
 
 pub returns-then-k-number : goal.returns-then-k-number
-returns-then-k-number c = let a = c.args in has_here request_number a.t1 a.n a.number c.loop-i.i _ c.loop-i.invariant.1 _ (omega arith) (omega arith) c.if-k-number.true
+returns-then-k-number c = let a = c.args in has_here request_number a.requests a.n a.number c.loop-i.i _ c.loop-i.invariant.1 _ (omega arith) (omega arith) c.if-k-number.true
 
 pub loop-i-preserved : goal.loop-i-preserved
-loop-i-preserved c = let a = c.args in (omega arith, has_next request_number a.t1 a.n a.number c.loop-i.i _ c.loop-i.invariant.1 _ (omega arith) (omega arith) c.if-k-number.false)
+loop-i-preserved c = let a = c.args in (omega arith, has_next request_number a.requests a.n a.number c.loop-i.i _ c.loop-i.invariant.1 _ (omega arith) (omega arith) c.if-k-number.false)
 
 pub returns : goal.returns
-returns c = let a = c.args in has_none request_number a.t1 a.n a.number c.loop-i.i _ c.loop-i.invariant.1 (omega arith)
+returns c = let a = c.args in has_none request_number a.requests a.n a.number c.loop-i.i _ c.loop-i.invariant.1 (omega arith)

@@ -8,16 +8,16 @@ pub loop-i-init : goal.loop-i-init
 loop-i-init c = (omega arith, (omega arith, refl))
 
 pub returns-then-number-low : goal.returns-then-number-low
-returns-then-number-low c = let a = c.args in rise_low request_number a.t1 a.n request_name a.next c.loop-i.i c.loop-i.low _ c.loop-i.invariant.1.1 unread_request (omega arith) (omega arith) (omega arith)
+returns-then-number-low c = let a = c.args in rise_low request_number a.requests a.n request_name a.next c.loop-i.i c.loop-i.low _ c.loop-i.invariant.1.1 unread_request (omega arith) (omega arith) (omega arith)
 
 pub returns-then-next-number : goal.returns-then-next-number
-returns-then-next-number c = let a = c.args in rise_high request_number a.t1 a.n request_name a.next c.loop-i.i c.loop-i.low _ c.loop-i.invariant.1.1 unread_request (omega arith) (omega arith) (omega arith) (omega arith)
+returns-then-next-number c = let a = c.args in rise_high request_number a.requests a.n request_name a.next c.loop-i.i c.loop-i.low _ c.loop-i.invariant.1.1 unread_request (omega arith) (omega arith) (omega arith) (omega arith)
 
 pub returns-then-name-gt128 : goal.returns-then-name-gt128
-returns-then-name-gt128 c = let a = c.args in rise_long request_number a.t1 a.n request_name a.next c.loop-i.i c.loop-i.low _ c.loop-i.invariant.1.1 unread_request (omega arith) (omega arith) (omega arith) (omega arith) (omega arith)
+returns-then-name-gt128 c = let a = c.args in rise_long request_number a.requests a.n request_name a.next c.loop-i.i c.loop-i.low _ c.loop-i.invariant.1.1 unread_request (omega arith) (omega arith) (omega arith) (omega arith) (omega arith)
 
 pub loop-i-preserved : goal.loop-i-preserved
-loop-i-preserved c = let a = c.args in (omega arith, (omega arith, rise_next request_number a.t1 a.n request_name a.next c.loop-i.i c.loop-i.low _ c.loop-i.invariant.1.1 unread_request (omega arith) (omega arith) (omega arith) (omega arith) _ (omega arith) (omega arith)))
+loop-i-preserved c = let a = c.args in (omega arith, (omega arith, rise_next request_number a.requests a.n request_name a.next c.loop-i.i c.loop-i.low _ c.loop-i.invariant.1.1 unread_request (omega arith) (omega arith) (omega arith) (omega arith) _ (omega arith) (omega arith)))
 
 pub returns : goal.returns
-returns c = let a = c.args in rise_end request_number a.t1 a.n request_name a.next c.loop-i.i c.loop-i.low _ c.loop-i.invariant.1.1 (omega arith)
+returns c = let a = c.args in rise_end request_number a.requests a.n request_name a.next c.loop-i.i c.loop-i.low _ c.loop-i.invariant.1.1 (omega arith)
