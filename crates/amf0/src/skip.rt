@@ -17,7 +17,7 @@ pub enum Skip {
 }
 
 // The pairs from `at` on, up to the end mark.
-#[cycle(skip_pairs_skip_value_skip_values)]
+#[cycle(skip)]
 fn skip_pairs(body: &[u8], at: usize, left: usize) -> Skip
     requires { at ≤ length body.now }
     ensures { result ≡ pairs (skip_v body.now left) body.now at }
@@ -37,7 +37,7 @@ fn skip_pairs(body: &[u8], at: usize, left: usize) -> Skip
 }
 
 // `count` values from `at` on. Each takes a byte at least, so a count past the body's end costs no more than the body.
-#[cycle(skip_pairs_skip_value_skip_values)]
+#[cycle(skip)]
 fn skip_values(body: &[u8], at: usize, count: usize, left: usize) -> Skip
     ensures { result ≡ values_f (skip_v body.now left) count at }
 {
@@ -55,7 +55,7 @@ fn skip_values(body: &[u8], at: usize, count: usize, left: usize) -> Skip
 }
 
 // The value at `at`, in which containers may nest `left` deep. A container that may not is too deep, cut or not.
-#[cycle(skip_pairs_skip_value_skip_values)]
+#[cycle(skip)]
 pub fn skip_value(body: &[u8], at: usize, left: usize) -> Skip
     ensures { result ≡ skip_v body.now left at }
 {

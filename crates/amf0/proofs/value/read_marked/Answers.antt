@@ -42,4 +42,4 @@ unfolding by_marker
 returns-in-12 c = marked _ _ _ c.args.m 12 c.read_long_text.ensures (omega arith)
 
 pub returns-in_default : goal.returns-in_default
-returns-in_default c = let q = c.match.rest in other_marker _ _ _ _ c.no_value.ensures (record { n12 = q.1; n11 = q.0.1; n10 = q.0.0.1; n8 = q.0.0.0.1; n6 = q.0.0.0.0.1; n5 = q.0.0.0.0.0.1; n3 = q.0.0.0.0.0.0.1; n2 = q.0.0.0.0.0.0.0.1; n1 = q.0.0.0.0.0.0.0.0.1; n0 = q.0.0.0.0.0.0.0.0.0.1 })
+returns-in_default c = other_marker _ _ _ _ c.no_value.ensures (record { n12 = (λ e. omega (arith, e)); n11 = (λ e. omega (arith, e)); n10 = (λ e. omega (arith, e)); n8 = (λ e. omega (arith, e)); n6 = (λ e. omega (arith, e)); n5 = (λ e. omega (arith, e)); n3 = (λ e. omega (arith, e)); n2 = (λ e. omega (arith, e)); n1 = (λ e. omega (arith, e)); n0 = (λ e. omega (arith, e)) })

@@ -1,0 +1,28 @@
+use mathlib.Core.Path.{◌≡◌}
+use Prim.Native.Nat.{◌+◌, ◌-◌, ◌*◌, ◌≤◌}
+use lib.ListN.{length}
+use Rattle.amf0.specs.Skipping.{pairs, skip_v, values_f}
+use Rattle.amf0.proofs.skip.+skip.Given as goal
+
+-- a call one level down has a smaller `left`, and a value is called by what holds it at the same one
+abbrev pub decreases-skip_pairs : goal.decreases-skip_pairs
+decreases-skip_pairs l = 2 * l.left + 1
+
+abbrev pub decreases-skip_value : goal.decreases-skip_value
+decreases-skip_value l = 2 * l.left
+
+abbrev pub decreases-skip_values : goal.decreases-skip_values
+decreases-skip_values l = 2 * l.left + 1
+
+-- what is left to skip gives the answer
+abbrev pub invariant-skip_pairs-loop-n : goal.invariant-skip_pairs-loop-n
+invariant-skip_pairs-loop-n l = (l.i ≤ length l.body) × (pairs (skip_v l.body l.left) l.body l.i ≡ pairs (skip_v l.body l.left) l.body l.at)
+
+abbrev pub decreases-skip_pairs-loop-n : goal.decreases-skip_pairs-loop-n
+decreases-skip_pairs-loop-n l = length l.body - l.i
+
+abbrev pub invariant-skip_values-loop-k : goal.invariant-skip_values-loop-k
+invariant-skip_values-loop-k l = (l.k ≤ l.count) × (values_f (skip_v l.body l.left) l.k l.i ≡ values_f (skip_v l.body l.left) l.count l.at)
+
+abbrev pub decreases-skip_values-loop-k : goal.decreases-skip_values-loop-k
+decreases-skip_values-loop-k l = l.k
