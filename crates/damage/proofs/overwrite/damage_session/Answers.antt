@@ -1,3 +1,4 @@
+use native.Mathlib.Omega.{arith}
 use Rattle.damage.proofs.DamageLaws.{at_what, nothing_else}
 use mathlib.Core.Path.{ap, ◌∙◌}
 use Rattle.session.specs.State.{with_requests, with_streams}

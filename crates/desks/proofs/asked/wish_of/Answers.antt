@@ -1,3 +1,4 @@
+use native.Mathlib.Omega.{arith}
 use Rattle.desks.proofs.SeenLaws.{wish_18, wish_20, wish_4}
 use Rattle.desks.proofs.asked.wish_of.Goals as goal
 

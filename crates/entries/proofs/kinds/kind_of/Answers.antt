@@ -1,3 +1,4 @@
+use native.Mathlib.Omega.{arith}
 use Rattle.entries.specs.Entries.{kind_of}
 use Rattle.entries.proofs.EntriesLaws.{at_kind, kind_unknown}
 use mathlib.Core.Path.{refl}
@@ -45,4 +46,4 @@ returns-in-10 c = at_kind _ 10 _ refl c.in-10.is
 
 pub returns-in_default : goal.returns-in_default
 unfolding kind_of
-returns-in_default c = kind_unknown _ (λ e. omega (arith, e)) (λ e. omega (arith, e)) (λ e. omega (arith, e)) (λ e. omega (arith, e)) (λ e. omega (arith, e)) (λ e. omega (arith, e)) (λ e. omega (arith, e)) (λ e. omega (arith, e)) (λ e. omega (arith, e)) (λ e. omega (arith, e))
+returns-in_default c = kind_unknown c.args.byte (λ e. omega (arith, e)) (λ e. omega (arith, e)) (λ e. omega (arith, e)) (λ e. omega (arith, e)) (λ e. omega (arith, e)) (λ e. omega (arith, e)) (λ e. omega (arith, e)) (λ e. omega (arith, e)) (λ e. omega (arith, e)) (λ e. omega (arith, e))

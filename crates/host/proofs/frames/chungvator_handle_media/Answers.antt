@@ -1,3 +1,4 @@
+use native.Mathlib.Omega.{arith}
 use Rattle.host.proofs.FramesLaws.{media_audio, media_other, media_refused, media_video}
 use Rattle.host.proofs.frames.chungvator_handle_media.Goals as goal
 

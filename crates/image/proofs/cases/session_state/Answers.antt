@@ -1,3 +1,4 @@
+use native.Mathlib.Omega.{arith}
 use Rattle.image.proofs.TestsLaws.{case_here, case_past}
 use Rattle.image.specs.Cases.{session_state}
 use mathlib.Core.Path.{refl}

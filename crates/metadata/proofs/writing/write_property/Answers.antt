@@ -94,4 +94,4 @@ returns-in-10 c = let a = c.args in nth_run (listed a.m) a.i 10 c.in-10.is _ _ _
 
 pub returns-in_default : goal.returns-in_default
 unfolding listed
-returns-in_default c = let a = c.args in let i = a.i in let r = c.match.rest in run_past (listed a.m) i _ _ (later 10 i (later 9 i (later 8 i (later 7 i (later 6 i (later 5 i (later 4 i (later 3 i (later 2 i (later 1 i (later 0 i (omega arith) r.0.0.0.0.0.0.0.0.0.0.1) r.0.0.0.0.0.0.0.0.0.1) r.0.0.0.0.0.0.0.0.1) r.0.0.0.0.0.0.0.1) r.0.0.0.0.0.0.1) r.0.0.0.0.0.1) r.0.0.0.0.1) r.0.0.0.1) r.0.0.1) r.0.1) r.1)
+returns-in_default c = let a = c.args in let i = a.i in run_past (listed a.m) i _ _ (later 10 i (later 9 i (later 8 i (later 7 i (later 6 i (later 5 i (later 4 i (later 3 i (later 2 i (later 1 i (later 0 i (omega arith) (λ e. omega (arith, e))) (λ e. omega (arith, e))) (λ e. omega (arith, e))) (λ e. omega (arith, e))) (λ e. omega (arith, e))) (λ e. omega (arith, e))) (λ e. omega (arith, e))) (λ e. omega (arith, e))) (λ e. omega (arith, e))) (λ e. omega (arith, e))) (λ e. omega (arith, e)))
