@@ -1,4 +1,3 @@
-use native.Mathlib.Omega.{arith}
 use mathlib.Core.Path.{refl, ap, ◌∙◌}
 use Rattle.session.specs.declared.decision.Event.TheVariants.{AudioDataReceived, VideoDataReceived}
 use Rattle.streams.specs.Streams.{frame_of}
@@ -8,6 +7,7 @@ use Rattle.messages.proofs.MessagesLaws.{type_8, type_9}
 use Rattle.image.specs.Image.{session_at}
 use Rattle.arrays.specs.Turns.{turned}
 use Rattle.arrays.proofs.TurnsLaws.{stays_told, type_none, type_read}
+use native.Mathlib.Omega.{arith}
 use Rattle.arrays.proofs.turns.by_type_in.Goals as goal
 
 pub returns-then-is_read : goal.returns-then-is_read

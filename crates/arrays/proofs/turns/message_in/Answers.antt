@@ -4,6 +4,8 @@ use Rattle.session.specs.declared.session.Session.{Session}
 use Rattle.messages.specs.Messages.{by_type}
 use Rattle.arrays.specs.Turns.{keeps}
 use Rattle.arrays.proofs.TurnsLaws.{turn-open, turn_shut}
+use mathlib.Core.Path.{ap}
+use mathlib.Core.Bool.{not}
 use Rattle.arrays.proofs.turns.message_in.Goals as goal
 
 pub returns-then-not-image_sound : goal.returns-then-not-image_sound
@@ -12,7 +14,7 @@ returns-then-not-image_sound c = let a = c.args in turn_shut a.facts.now a.strea
 
 pub by_type_in-requires : goal.by_type_in-requires
 unfolding keeps
-by_type_in-requires c = sym c.image_sound.ensures ∙ not-false _ c.if-not-image_sound.false
+by_type_in-requires c = sym c.image_sound.ensures ∙ not-false _ (ap not c.if-not-image_sound.false)
 
 pub returns : goal.returns
 unfolding keeps

@@ -6,6 +6,8 @@ use Rattle.replies.specs.Finishing.{finishing}
 use Rattle.replies.specs.Replies.{short}
 use Rattle.arrays.specs.Turns.{keeps}
 use Rattle.arrays.proofs.TurnsLaws.{turn-open, turn_shut}
+use mathlib.Core.Path.{ap}
+use mathlib.Core.Bool.{not}
 use Rattle.arrays.proofs.turns.reject_in.Goals as goal
 
 pub returns-then-not-image_sound : goal.returns-then-not-image_sound
@@ -14,7 +16,7 @@ returns-then-not-image_sound c = let a = c.args in turn_shut a.facts.now a.strea
 
 pub conclude-requires : goal.conclude-requires
 unfolding keeps
-conclude-requires c = sym c.image_sound.ensures ∙ not-false _ c.if-not-image_sound.false
+conclude-requires c = sym c.image_sound.ensures ∙ not-false _ (ap not c.if-not-image_sound.false)
 
 pub returns : goal.returns
 unfolding keeps

@@ -1,9 +1,9 @@
-use native.Mathlib.Omega.{arith}
 use Rattle.damage.proofs.DamageLaws.{at_what, nothing_else}
 use mathlib.Core.Path.{ap, ◌∙◌}
 use Rattle.session.specs.State.{with_requests, with_streams}
 use Rattle.text.specs.declared.names.Name.{Name}
 use Rattle.damage.specs.Damage.{damaged, with_names}
+use native.Mathlib.Omega.{arith}
 use Rattle.damage.proofs.overwrite.damage_session.Goals as goal
 
 pub returns-in-0 : goal.returns-in-0

@@ -1,5 +1,5 @@
-use native.Mathlib.Omega.{arith}
 use Rattle.desks.proofs.SeenLaws.{wish_18, wish_20, wish_4}
+use native.Mathlib.Omega.{arith}
 use Rattle.desks.proofs.asked.wish_of.Goals as goal
 
 pub returns-in-4 : goal.returns-in-4

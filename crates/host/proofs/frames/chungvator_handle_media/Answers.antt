@@ -1,5 +1,5 @@
-use native.Mathlib.Omega.{arith}
 use Rattle.host.proofs.FramesLaws.{media_audio, media_other, media_refused, media_video}
+use native.Mathlib.Omega.{arith}
 use Rattle.host.proofs.frames.chungvator_handle_media.Goals as goal
 
 pub returns-then-not-image_sound : goal.returns-then-not-image_sound

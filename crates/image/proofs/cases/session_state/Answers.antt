@@ -1,7 +1,7 @@
-use native.Mathlib.Omega.{arith}
 use Rattle.image.proofs.TestsLaws.{case_here, case_past}
 use Rattle.image.specs.Cases.{session_state}
 use mathlib.Core.Path.{refl}
+use native.Mathlib.Omega.{arith}
 use Rattle.image.proofs.cases.session_state.Goals as goal
 
 pub returns-in-0 : goal.returns-in-0

@@ -1,3 +1,4 @@
+use native.Mathlib.Omega.{arith}
 use Rattle.messages.proofs.MessagesLaws.{type_18, type_20, type_4, type_8, type_9, type_other}
 use Rattle.messages.proofs.messages.by_type.Goals as goal
 
@@ -17,4 +18,4 @@ pub returns-in-20 : goal.returns-in-20
 returns-in-20 c = type_20 _ _ _ _ _ _ _ _ _ c.by_wish-in-20.ensures c.command_wish.ensures c.in-20.is
 
 pub returns-in_default : goal.returns-in_default
-returns-in_default c = let r = c.match.rest in type_other _ _ _ _ _ _ _ _ c.idle_answer.ensures r.0.0.0.0.1 r.0.0.0.1 r.0.0.1 r.0.1 r.1
+returns-in_default c = type_other _ _ _ _ _ _ _ _ c.idle_answer.ensures (λ e. omega (arith, e)) (λ e. omega (arith, e)) (λ e. omega (arith, e)) (λ e. omega (arith, e)) (λ e. omega (arith, e))

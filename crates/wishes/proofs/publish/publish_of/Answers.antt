@@ -1,8 +1,8 @@
 use mathlib.Core.Path.{ap, ap₂, ◌∙◌}
-use mathlib.Core.Bool.{not}
 use Rattle.text.specs.Words.{mode_of}
 use Rattle.wishes.specs.Publish.{publish_as, publish_of}
 use Rattle.wishes.proofs.ChoiceLaws.{fault_here, fault_past}
+use mathlib.Core.Bool.{not}
 use Rattle.wishes.proofs.publish.publish_of.Goals as goal
 
 pub returns-then-not-is_there : goal.returns-then-not-is_there

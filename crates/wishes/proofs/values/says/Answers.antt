@@ -1,6 +1,6 @@
+use Rattle.wishes.proofs.ValuesLaws.{says_no, says_word}
 use mathlib.Core.Path.{ap}
 use mathlib.Core.Bool.{not}
-use Rattle.wishes.proofs.ValuesLaws.{says_no, says_word}
 use Rattle.wishes.proofs.values.says.Goals as goal
 
 pub returns-then-not-is_text : goal.returns-then-not-is_text
