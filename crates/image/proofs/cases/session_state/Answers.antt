@@ -10,4 +10,4 @@ returns-in-0 c = case_here _ 0 _ _ c.in-0.is
 
 pub returns-in_default : goal.returns-in_default
 unfolding session_state
-returns-in_default c = case_past _ 0 _ _ _ (λ e. omega (arith, e)) refl
+returns-in_default c = case_past c.args.n 0 _ _ _ (λ e. omega (arith, e)) refl
