@@ -1,7 +1,7 @@
 // "NAME CODE [ACTION STREAM] [EVENT FIELD=VALUE ..] [ping=N] [out=HEX] [spilt]"
 ghost use Rattle.std.specs.Prelude.{◌≡◌, drop};
 ghost use Rattle.spelling.specs.Text.{put_all};
-ghost use Rattle.reports.specs.AnswerLine.{answer_text, end_text, head_text, ping_line, ping_text, send_text, spilt_text, untouched as untouchedFrom, written_text};
+ghost use Rattle.reports.specs.AnswerLine.{answer_text, end_text, head_text, ping_line, ping_text, send_text, spilt_text, untouched as untouched_from, written_text};
 
 use lines::{put_event, put_outcome};
 use metadata::StreamMetadata;
@@ -12,7 +12,7 @@ use wishes::{Outcome, number_of};
 
 // Whether every byte from n on is still A5.
 fn untouched(out: &[u8], n: usize) -> bool
-    ensures { result ≡ untouchedFrom (drop n out.now) }
+    ensures { result ≡ untouched_from (drop n out.now) }
 {
     let mut i = n;
     while i < out.len() {

@@ -1,6 +1,6 @@
 -- Text in a lent buffer, and numbers, bytes and names as a trace writes them.
 use Rattle.std.specs.Prelude.{ℕ, zero, suc, ◌+◌, ◌/◌, ◌%◌, List, [], ◌∷◌, ◌++◌, ltb, length, set}
-use Rattle.io.specs.Digits.{last_digits, hex_digit_ascii as digitGlyph}
+use Rattle.io.specs.Digits.{last_digits, hex_digit_ascii as digit_glyph}
 use Rattle.numbers.specs.Choose.{pick}
 use Rattle.text.specs.Names.{text_of}
 use Rattle.text.specs.declared.names.Name.{Name}
@@ -15,7 +15,7 @@ put_all (x ∷ t) p = put_all t (put_one x p)
 
 -- a digit below 16, in lower case
 abbrev pub glyph : ℕ → ℕ
-glyph d = digitGlyph d
+glyph d = digit_glyph d
 
 -- "lower-case hex"
 unfoldable pub hex_of : List ℕ → List ℕ

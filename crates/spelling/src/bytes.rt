@@ -1,7 +1,7 @@
 // Text goes into the rest of a lent buffer, byte by byte. `at` is how many bytes stand there; past the end nothing is put.
 ghost use Rattle.std.specs.Prelude.{◌≡◌, ◌%◌};
 ghost use Rattle.numbers.specs.Fields.{bytes_of};
-ghost use Rattle.spelling.specs.Text.{decimal_text, glyph as glyphOf, hex_of, hex_text, name_field, number_field, put_all, put_one};
+ghost use Rattle.spelling.specs.Text.{decimal_text, glyph as glyph_of, hex_of, hex_text, name_field, number_field, put_all, put_one};
 
 use numbers::write_field;
 use text::{Name, text_of};
@@ -30,7 +30,7 @@ pub fn put_word(out: &mut [u8], at: usize, word: &[u8]) -> usize
 
 // A digit below 16 in ASCII, in lower case.
 fn glyph(d: u8) -> u8
-    ensures { result ≡ glyphOf (d % 16) }
+    ensures { result ≡ glyph_of (d % 16) }
 {
     let x = d % 16;
     if x < 10 { 48 + x } else { 87 + x }

@@ -1,6 +1,6 @@
 // Commands that file a request: connect, publish, play.
 ghost use Rattle.std.specs.Prelude.{◌≡◌};
-ghost use Rattle.steps.specs.Commands.{asking, connect as connectDecision, connected_fault, failing, following_request, play as playDecision, play_request, publish as publishDecision, publish_request, request_room};
+ghost use Rattle.steps.specs.Commands.{asking, connect as connect_decision, connected_fault, failing, following_request, play as play_decision, play_request, publish as publish_decision, publish_request, request_room};
 ghost use Rattle.session.specs.Changes.{filing_of};
 ghost use Rattle.session.specs.Decisions.{raising};
 ghost use Rattle.metadata.specs.Metadata.{no_metadata};
@@ -40,7 +40,7 @@ fn request_room(desk: Desk, fits: bool) -> Room
 }
 
 pub fn connect(desk: Desk, transaction: u64, encoding: u64, fits: bool, app: Name) -> Decision
-    ensures { result ≡ connectDecision desk transaction encoding fits app }
+    ensures { result ≡ connect_decision desk transaction encoding fits app }
 {
     match request_room(desk, fits) {
         Room::Closed(outcome) => refused(outcome),
@@ -156,7 +156,7 @@ pub fn publish(
     fits: bool,
     key: Name,
 ) -> Decision
-    ensures { result ≡ publishDecision desk stream transaction arguments fits key }
+    ensures { result ≡ publish_decision desk stream transaction arguments fits key }
 {
     match arguments {
         PublishArguments::TooFew => fail(transaction, CommandFault::PublishFew, stream),
@@ -235,7 +235,7 @@ pub fn play(
     fits: bool,
     key: Name,
 ) -> Decision
-    ensures { result ≡ playDecision desk stream transaction arguments fits key }
+    ensures { result ≡ play_decision desk stream transaction arguments fits key }
 {
     match arguments {
         PlayArguments::TooFew => fail(transaction, CommandFault::PlayFew, stream),

@@ -2,7 +2,7 @@
 ghost use Rattle.std.specs.Prelude.{◌≡◌};
 ghost use Rattle.session.specs.Changes.{no_change};
 ghost use Rattle.session.specs.Decisions.{raising, replying};
-ghost use Rattle.steps.specs.Deciding.{decide as decideWish, decide_want, subject_of};
+ghost use Rattle.steps.specs.Deciding.{decide as decide_wish, decide_want, subject_of};
 ghost use Rattle.metadata.specs.Metadata.{no_metadata};
 ghost use Rattle.text.specs.Names.{empty_name};
 ghost use Rattle.session.specs.declared.decision.Event.TheVariants.{PingResponseReceived};
@@ -97,7 +97,7 @@ fn decide_want(
 
 // The wish of a message that came on `stream`; the desk has the stream in question.
 pub fn decide(desk: Desk, stream: StreamId, wish: Wish) -> Decision
-    ensures { result ≡ decideWish desk stream wish }
+    ensures { result ≡ decide_wish desk stream wish }
 {
     let want = wish.want;
     let name = wish.name;

@@ -33,7 +33,7 @@ use Rattle.decisions.specs.Answers.{completed, playing, publishing}
 use Rattle.story.specs.Doings.{Doing, Wants, Shows, Rests, Accepts, Rejects, Finishes, Sends}
 use Rattle.story.specs.Runs.{Told}
 use Rattle.story.specs.History.{Filed, Last, Never, Creation, Closing, Deletion, PublishAccepted, PlayAccepted, Finishing, acceptance, creation, creations, decided, decides, decisions, done, effect, effect_of_want, ending, filed, filed_by, filing, filings, is_it, joined_by, joining_kind, last_effective, makes, numbered, one_for, stands, waiting}
-use Rattle.story.specs.History.{joined as joinedIn}
+use Rattle.story.specs.History.{joined as joined_in}
 use Rattle.story.specs.Stories.{as_filed, asked}
 use Rattle.story.specs.Orders.{request_in}
 use Rattle.story.proofs.LookLaws.{not_none, same_or}
@@ -59,7 +59,7 @@ state_of (PlayAccepted key) = some (Playing, key)
 state_of Finishing = some (Completed, empty_name)
 
 pub record Follows (s : Session) (h : List Told) : Type 0 where
-  pub links : link s ≡ joinedIn h
+  pub links : link s ≡ joined_in h
   pub waits : (n : ℕ) → asked (request_of s n) ≡ waiting n h
   pub gone : (n : ℕ) → decided n h ≡ true → n < s.next_request
   pub makes_next : s.next_stream ≡ creations h + 1
@@ -223,16 +223,16 @@ kind_joins Publish r a old e = refl
 kind_joins Play r a old e = refl
 
 module _ (s : Session) (g : Good s) (h : List Told) (v : Follows s h) (x : ℕ) where
-  linked : connected s ≡ true → joinedIn h ≡ some s.app
+  linked : connected s ≡ true → joined_in h ≡ some s.app
   linked c = sym v.links ∙ rw c
 
   -- a close or a delete that did nothing
   still_ends : (new : Last) (y : ℕ) (o : Outcome) → (done o ≡ true → connected s ≡ true → stream_of s y ≡ none)
-      → standing (stream_of s x) ≡ state_of (pick (done o) (pick (eqb y x) (ending new (joinedIn h) (last_effective x h)) (last_effective x h)) (last_effective x h))
+      → standing (stream_of s x) ≡ state_of (pick (done o) (pick (eqb y x) (ending new (joined_in h) (last_effective x h)) (last_effective x h)) (last_effective x h))
   still_ends new y o k =
       pick_elim (λ (l : Last). standing (stream_of s x) ≡ state_of l) _ _ (done o)
       (λ b. pick_eq (λ (l : Last). standing (stream_of s x) ≡ state_of l) _ _ y x
-      (λ q. v.agrees x ∙ ap state_of (sym (end_none new (joinedIn h) (last_effective x h)
+      (λ q. v.agrees x ∙ ap state_of (sym (end_none new (joined_in h) (last_effective x h)
       (λ a e. stands_none (last_effective x h) (sym (v.agrees x) ∙ ap standing (ap (stream_of s) (sym q) ∙ k b (linked_on (connected s) s.app a (v.links ∙ e))))))))
       (λ q. v.agrees x))
       (λ b. v.agrees x)
@@ -272,7 +272,7 @@ module _ (s : Session) (g : Good s) (h : List Told) (v : Follows s h) (x : ℕ) 
       (λ z. ap standing (set_other s g e x (λ u. z (sym q ∙ u))) ∙ v.agrees x)
 
   -- a stream that stood was closed or deleted while connected
-  ends : (new : Last) (y : ℕ) (e : Stream) → connected s ≡ true → stream_of s y ≡ some e → y ≡ x → ending new (joinedIn h) (last_effective x h) ≡ new
+  ends : (new : Last) (y : ℕ) (e : Stream) → connected s ≡ true → stream_of s y ≡ some e → y ≡ x → ending new (joined_in h) (last_effective x h) ≡ new
   ends new y e c f q = rw (linked c, stands_some (last_effective x h) (e.state, e.key) (sym (v.agrees x) ∙ ap standing (ap (stream_of s) (sym q) ∙ f)))
 
   pub did_agrees : {k : Doing} {d : Decision} → Did s k d → standing (stream_of (applied s d.change) x) ≡ state_of (effect x k d.outcome h (last_effective x h))
@@ -303,9 +303,9 @@ module _ (s : Session) (g : Good s) (h : List Told) (v : Follows s h) (x : ℕ) 
 
 -- ---- all of it, after a step
 module _ (s : Session) (g : Good s) (h : List Told) (v : Follows s h) where
-  pub did_links : {k : Doing} {d : Decision} → Did s k d → link (applied s d.change) ≡ joined_by k d.outcome h (joinedIn h)
+  pub did_links : {k : Doing} {d : Decision} → Did s k d → link (applied s d.change) ≡ joined_by k d.outcome h (joined_in h)
   unfolding applied connected with_stream with_changed without_stream with_request without_request
-  did_links (still k d c n f i) = rw c (v.links ∙ sym (still_joins s d k i h (joinedIn h)))
+  did_links (still k d c n f i) = rw c (v.links ∙ sym (still_joins s d k i h (joined_in h)))
   did_links (made q m k) = v.links
   did_links (files f i k a) = v.links
   did_links (connects f i k a) = v.links
@@ -313,7 +313,7 @@ module _ (s : Session) (g : Good s) (h : List Told) (v : Follows s h) where
   did_links (deleted q c f k) = rw k.change v.links
   did_links (completes f) = v.links
   did_links (joined {n = n} {r = r} f k) = rw (waits_filed s h v n.0 r f, k)
-  did_links (grants {n = n} {r = r} {a = a} f k o) = rw (waits_filed s h v n.0 r f) (v.links ∙ sym (kind_joins r.kind r a (joinedIn h) k))
+  did_links (grants {n = n} {r = r} {a = a} f k o) = rw (waits_filed s h v n.0 r f) (v.links ∙ sym (kind_joins r.kind r a (joined_in h) k))
   did_links (missed f k o) = v.links
   did_links (rejects f) = v.links
 

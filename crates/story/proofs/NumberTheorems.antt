@@ -18,7 +18,7 @@ use Rattle.story.specs.Steps.{Call, Response, step}
 use Rattle.story.specs.Doings.{Doing, Wants, Shows, Rests, Accepts, Rejects, Finishes, Sends, doing}
 use Rattle.story.specs.Runs.{Start, Told, after, told}
 use Rattle.story.specs.History.{Filed, creations, decided, done, filed, filing, joined_by, joining_kind}
-use Rattle.story.specs.History.{joined as joinedIn, joining as joiningBy}
+use Rattle.story.specs.History.{joined as joined_in, joining as joining_by}
 use Rattle.story.specs.Stories.{asked}
 use Rattle.story.proofs.LookLaws.{not_none, same_found}
 use Rattle.story.proofs.SessionLaws.{Good, request_below, stream_absent}
@@ -87,7 +87,7 @@ kind_stays Connect name j p = (name, refl)
 kind_stays Publish name j p = p
 kind_stays Play name j p = p
 
-ask_stays : (b : Bool) (f : Option Filed) (j : Option Name) → Some j → Some (pick b (joiningBy f j) j)
+ask_stays : (b : Bool) (f : Option Filed) (j : Option Name) → Some j → Some (pick b (joining_by f j) j)
 ask_stays false f j p = p
 ask_stays true none j p = p
 ask_stays true (some f) j p = kind_stays f.kind f.name j p
@@ -101,13 +101,13 @@ joins_stay (Rejects n short) o h j p = p
 joins_stay (Finishes x) o h j p = p
 joins_stay (Sends x) o h j p = p
 
-stays : (b : Start) (newer older : List Call) → Some (joinedIn (told b older)) → Some (joinedIn (told b (newer ++ older)))
-unfolding told joinedIn
+stays : (b : Start) (newer older : List Call) → Some (joined_in (told b older)) → Some (joined_in (told b (newer ++ older)))
+unfolding told joined_in
 stays b [] older p = p
-stays b (c ∷ newer) older p = joins_stay (doing c) (step (after b (newer ++ older)) c).0.outcome (told b (newer ++ older)) (joinedIn (told b (newer ++ older))) (stays b newer older p)
+stays b (c ∷ newer) older p = joins_stay (doing c) (step (after b (newer ++ older)) c).0.outcome (told b (newer ++ older)) (joined_in (told b (newer ++ older))) (stays b newer older p)
 
 -- once a connect was accepted, the session is connected after every longer run
-pub connected_never_ends : (b : Start) (newer older : List Call) (app : Name) → joinedIn (told b older) ≡ some app → connected (after b (newer ++ older)) ≡ true
+pub connected_never_ends : (b : Start) (newer older : List Call) (app : Name) → joined_in (told b older) ≡ some app → connected (after b (newer ++ older)) ≡ true
 connected_never_ends b newer older app j =
     let s : Session = after b (newer ++ older) in
     let p = stays b newer older (app, j) in

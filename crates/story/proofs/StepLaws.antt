@@ -13,7 +13,7 @@ use Rattle.numbers.proofs.FieldsLaws.{front_nil}
 use Rattle.text.specs.declared.ids.StreamId.{StreamId}
 use Rattle.text.specs.declared.names.Name.{Name}
 use Rattle.record.specs.Clock.{time_of}
-use Rattle.record.specs.Records.{media as mediaRecord, ping_request}
+use Rattle.record.specs.Records.{media as media_record, ping_request}
 use Rattle.metadata.specs.Writing.{metadata_record}
 use Rattle.metadata.specs.declared.metadata.StreamMetadata.{StreamMetadata}
 use Rattle.answers.specs.Sending.{all_sent, sent}
@@ -273,7 +273,7 @@ module _ (s : Session) where
 
   media_fine : (type : ℕ) (x : StreamId) (timestamp : ℕ) (droppable : Bool) (body out : List ℕ) → Fine (media_sent type x timestamp droppable body out)
   unfolding media_sent
-  media_fine type x timestamp droppable body out = either (leb (length body) 16777215) _ _ (sending_fine (mediaRecord type timestamp x.0 droppable body) out) refl
+  media_fine type x timestamp droppable body out = either (leb (length body) 16777215) _ _ (sending_fine (media_record type timestamp x.0 droppable body) out) refl
 
   ping_fine : (t : ℕ) (b : Bool) (n : ℕ) → Not15 (pick {X = PingAnswer} b (record { outcome = Done; count = n; timestamp = t }) (record { outcome = NoRoom; count = 0; timestamp = 0 })).outcome
   ping_fine t true n = refl
