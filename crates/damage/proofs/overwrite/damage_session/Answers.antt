@@ -48,4 +48,4 @@ returns-in-9 c = let a = c.args in at_what _ _ 9 _ _ _ c.with_requests-in-9.ensu
 
 pub returns-in_default : goal.returns-in_default
 unfolding damaged
-returns-in_default c = nothing_else _ _ _ _ (λ e. omega (arith, e)) (λ e. omega (arith, e)) (λ e. omega (arith, e)) (λ e. omega (arith, e)) (λ e. omega (arith, e)) (λ e. omega (arith, e)) (λ e. omega (arith, e)) (λ e. omega (arith, e)) (λ e. omega (arith, e)) (λ e. omega (arith, e))
+returns-in_default c = nothing_else _ c.args.what _ _ (λ e. omega (arith, e)) (λ e. omega (arith, e)) (λ e. omega (arith, e)) (λ e. omega (arith, e)) (λ e. omega (arith, e)) (λ e. omega (arith, e)) (λ e. omega (arith, e)) (λ e. omega (arith, e)) (λ e. omega (arith, e)) (λ e. omega (arith, e))

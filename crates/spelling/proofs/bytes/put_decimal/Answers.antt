@@ -3,4 +3,4 @@ use native.Mathlib.Omega.{arith}
 use Rattle.spelling.proofs.bytes.put_decimal.Goals as goal
 
 pub returns : goal.returns
-returns c = let d = c.decimal-k.ensures in decimal_is _ _ _ _ _ (omega arith) d.1.0 d.1.1 c.put_word.ensures
+returns c = let d = c.decimal-k.ensures in decimal_is _ _ _ _ _ (omega arith) d.len d.digits c.put_word.ensures
