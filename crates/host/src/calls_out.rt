@@ -9,8 +9,7 @@ ghost use Rattle.arrays.specs.Turns.{hosted, started};
 use arrays::{accept_in, finish_in, message_in, reject_in, start_in};
 
 // A message that came in.
-#[unsafe(no_mangle)]
-pub extern "C" fn chungvator_handle_message(
+pub fn chungvator_handle_message(
     facts: &mut [u64; 10],
     streams: &mut [[u64; 4]; 16],
     requests: &mut [[u64; 6]; 16],
@@ -34,8 +33,7 @@ pub extern "C" fn chungvator_handle_message(
 }
 
 // A waiting request is accepted.
-#[unsafe(no_mangle)]
-pub extern "C" fn chungvator_accept_request(
+pub fn chungvator_accept_request(
     facts: &mut [u64; 10],
     streams: &mut [[u64; 4]; 16],
     requests: &mut [[u64; 6]; 16],
@@ -55,8 +53,7 @@ pub extern "C" fn chungvator_accept_request(
 }
 
 // A waiting request is rejected, with a code and a description.
-#[unsafe(no_mangle)]
-pub extern "C" fn chungvator_reject_request(
+pub fn chungvator_reject_request(
     facts: &mut [u64; 10],
     streams: &mut [[u64; 4]; 16],
     requests: &mut [[u64; 6]; 16],
@@ -89,8 +86,7 @@ pub extern "C" fn chungvator_reject_request(
 }
 
 // A playing stream is complete.
-#[unsafe(no_mangle)]
-pub extern "C" fn chungvator_finish_playing(
+pub fn chungvator_finish_playing(
     facts: &mut [u64; 10],
     streams: &mut [[u64; 4]; 16],
     requests: &mut [[u64; 6]; 16],
@@ -110,8 +106,7 @@ pub extern "C" fn chungvator_finish_playing(
 }
 
 // The start of a session. What stood in its arrays is written over, also by a start that is refused.
-#[unsafe(no_mangle)]
-pub extern "C" fn chungvator_start(
+pub fn chungvator_start(
     facts: &mut [u64; 10],
     streams: &mut [[u64; 4]; 16],
     requests: &mut [[u64; 6]; 16],

@@ -69,8 +69,7 @@ fn show_frame(
 }
 
 // An audio (kind 8) or a video (kind 9) message.
-#[unsafe(no_mangle)]
-pub extern "C" fn chungvator_handle_media(
+pub fn chungvator_handle_media(
     facts: &[u64; 10],
     streams: &[[u64; 4]; 16],
     requests: &[[u64; 6]; 16],

@@ -13,8 +13,7 @@ use sending::{write_media, write_metadata, write_ping};
 use text::StreamId;
 use wishes::number_of;
 
-#[unsafe(no_mangle)]
-pub extern "C" fn chungvator_send_audio_data(
+pub fn chungvator_send_audio_data(
     facts: &[u64; 10],
     streams: &[[u64; 4]; 16],
     requests: &[[u64; 6]; 16],
@@ -38,8 +37,7 @@ pub extern "C" fn chungvator_send_audio_data(
     number_of(outcome)
 }
 
-#[unsafe(no_mangle)]
-pub extern "C" fn chungvator_send_video_data(
+pub fn chungvator_send_video_data(
     facts: &[u64; 10],
     streams: &[[u64; 4]; 16],
     requests: &[[u64; 6]; 16],
@@ -64,8 +62,7 @@ pub extern "C" fn chungvator_send_video_data(
 }
 
 // `described` is a row of which are set and a row of values, as in an answer.
-#[unsafe(no_mangle)]
-pub extern "C" fn chungvator_send_metadata(
+pub fn chungvator_send_metadata(
     facts: &[u64; 10],
     streams: &[[u64; 4]; 16],
     requests: &[[u64; 6]; 16],
@@ -94,8 +91,7 @@ pub extern "C" fn chungvator_send_metadata(
     number_of(outcome)
 }
 
-#[unsafe(no_mangle)]
-pub extern "C" fn chungvator_send_ping_request(
+pub fn chungvator_send_ping_request(
     facts: &[u64; 10],
     streams: &[[u64; 4]; 16],
     requests: &[[u64; 6]; 16],
