@@ -1,4 +1,4 @@
-/* An RTMP server session for a C host, over the proved library libhost.a (`rt staticlib host` makes it).
+/* An RTMP server session for a C host, over the proved library libhost.a (`scripts/build library` makes it).
  *
  * A message comes in, an answer goes out: a number, at most one event, and records in a buffer that the host lends.
  * The library keeps nothing, allocates nothing, and does no input or output. A session is plain numbers and bytes in

@@ -98,7 +98,7 @@
 //!
 //! # Linking
 //!
-//! The library is `libhost.a`, made by `rt staticlib host` in the repository. It is looked for in
+//! The library is `libhost.a`, made by `scripts/build library` in the repository. It is looked for in
 //! `../target/staticlib`, seen from this crate, or in the folder that `CHUNGVATOR_LIB` names.
 #![deny(unsafe_code)]
 
