@@ -86,11 +86,11 @@ module _ (facts : List ℕ) (streams requests names : List (List ℕ)) where
         ∙ door_shut (readable_at facts streams requests) (session_sound s) b (sound_is facts streams requests names b e) (turned also before) (call s) (refusal BadSession s, out) ((before, unread), out) q
         (ap {B = (Arrays × (ℕ × Shown)) × List ℕ} (λ (x : Arrays). ((x, unread), out)) (sym z))
 
-    pub turn-open :
+    pub turn_open :
         b ≡ true → (v : (Arrays × (ℕ × Shown)) × List ℕ) → v ≡ turned also (facts, (streams, (requests, names))) (call (session_at facts streams requests names))
         → v ≡ hosted also (facts, (streams, (requests, names))) out (λ (z : Session). guarded z out (call z))
     unfolding hosted guarded
-    turn-open q v w = door_open (readable_at facts streams requests) (session_sound s) b (sound_is facts streams requests names b e) (turned also before) (call s) (refusal BadSession s, out) ((before, unread), out) q v w
+    turn_open q v w = door_open (readable_at facts streams requests) (session_sound s) b (sound_is facts streams requests names b e) (turned also before) (call s) (refusal BadSession s, out) ((before, unread), out) q v w
 
   module _ (shape : Shaped facts streams requests names) (ok : sound_at facts streams requests names ≡ true) where
     -- ---- what is written back

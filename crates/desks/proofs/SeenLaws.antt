@@ -58,12 +58,12 @@ unfolding connected session_at
 connected_told facts streams requests names b e = e
 
 -- ---- the desk
-pub desk-is :
+pub desk_is :
     (facts : List ℕ) (streams requests names : List (List ℕ)) (id : StreamId) (b : Bool) (seen : StreamFound) (p q : ℕ)
     → b ≡ connected_in (session_state (cell facts 2)) (eqb (cell facts 3) 1) → seen ≡ stream_at (session_at facts streams requests names) id → p ≡ cell facts 6 % 4294967296 → q ≡ cell facts 7 % 4294967296
     → ◌≡◌ {A = Desk} (record { connected = b; app = record { bytes = get_or names 1 []; len = cell facts 4 }; next_stream = p; next_request = q; stream_count = cell facts 8; request_count = cell facts 9; seen = seen }) (desk_of (session_at facts streams requests names) id)
 unfolding desk_of connected session_at
-desk-is facts streams requests names id b seen p q kb ks kp kq =
+desk_is facts streams requests names id b seen p q kb ks kp kq =
     λ i. record { connected = kb i; app = record { bytes = get_or names 1 []; len = cell facts 4 }; next_stream = kp i; next_request = kq i; stream_count = cell facts 8; request_count = cell facts 9; seen = ks i }
 
 -- ---- the decisions
@@ -82,9 +82,9 @@ module _ (s : Session) where
   finish_is id f d e h = e ∙ ap (λ (z : StreamFound). finish_playing z id) h
 
 -- ---- by what is asked
-pub asked-told :
+pub asked_told :
     (x y : Asked) (s : Session) (code description body : List ℕ) (d : Decision) → d ≡ decision_of y s code description body → x ≡ y → d ≡ decision_of x s code description body
-asked-told x y s code description body d e q = e ∙ ap (λ (z : Asked). decision_of z s code description body) (sym q)
+asked_told x y s code description body d e q = e ∙ ap (λ (z : Asked). decision_of z s code description body) (sym q)
 
 module _ (type : ℕ) where
   pub read_4 : type ≡ 4 → true ≡ read_type type

@@ -69,7 +69,7 @@ abbrev pub pinging_of : Session → PingAnswer × List ℕ → Response × Sessi
 pinging_of s a = (plainly a.0.outcome a.0.count a.0.timestamp a.1, s)
 
 -- ---- a step is what the function's contract says of it: the contract of `handle_message` is
--- (r, now out.exit) ≡ handle_message session kind stream timestamp clock body out, and so on for each line
+-- (result, out.new) ≡ handle_message session kind stream timestamp clock body out, and so on for each line
 unfoldable pub step : Session → Call → Response × Session
 step s (message type x timestamp clock body out) = answering (handle_message s type x timestamp clock body out)
 step s (media kind x timestamp) = showing s (handle_media s kind x timestamp)

@@ -24,7 +24,7 @@ use Rattle.image.specs.Image.{Arrays, Shaped, cell, every, facts_readable, joine
 use Rattle.image.proofs.RowsLaws.{all_length, part_length, used_front}
 use Rattle.written.specs.Edits.{app_after, applied_at, edited, edited_by, facts_after, in_use, place_in, request_edit, request_place, row_id, stream_edit, stream_place}
 use Rattle.written.specs.Kept.{facts_of, kept_at, key_bytes, onto, request_row, requests_of, stream_row, streams_of, title_bytes}
-use Rattle.written.proofs.BackLaws.{flag_back, names-back, place-joined, request_back, rows_back, session_back, stream_back, ten}
+use Rattle.written.proofs.BackLaws.{flag_back, names_back, place_joined, request_back, rows_back, session_back, stream_back, ten}
 use Rattle.written.proofs.RoundTheorems.{Tidy}
 use Rattle.written.proofs.ColumnLaws.{kept_add, kept_cut, kept_put, kept_same}
 
@@ -118,44 +118,44 @@ module _ (facts : List ℕ) (streams requests names : List (List ℕ)) (shape : 
   stream_rows_back = rows_back stream_of stream_row stream_readable 4 stream_back n streams (keys_of names) (shape.sixteen_streams ∙ sym keys_length) says.stream_rows shape.four_wide
 
   keys_back : map key_bytes ts ≡ take n (keys_of names)
-  keys_back = names-back stream_of key_bytes (λ row bytes. refl) n streams (keys_of names) (shape.sixteen_streams ∙ sym keys_length)
+  keys_back = names_back stream_of key_bytes (λ row bytes. refl) n streams (keys_of names) (shape.sixteen_streams ∙ sym keys_length)
 
   request_rows_back : map request_row rs ≡ take m requests
   request_rows_back = rows_back request_of request_row request_readable 6 request_back m requests (titles_of names) (shape.sixteen_requests ∙ sym titles_length) says.request_rows shape.six_wide
 
   titles_back : map title_bytes rs ≡ take m (titles_of names)
-  titles_back = names-back request_of title_bytes (λ row bytes. refl) m requests (titles_of names) (shape.sixteen_requests ∙ sym titles_length)
+  titles_back = names_back request_of title_bytes (λ row bytes. refl) m requests (titles_of names) (shape.sixteen_requests ∙ sym titles_length)
 
   -- a column of the streams' table, rows or keys
   module _ (g : Stream → List ℕ) (l : List (List ℕ)) (hl : length l ≡ 16) (back : map g ts ≡ take n l) where
-    of-streams :
+    of_streams :
         (effect : Effect) (e : Stream) (r : Request)
         → edited (g no_stream) (stream_edit effect (place_in stream_number e.id.0 ts)) n (g e) l ≡ onto (map g (streams_of n (applied_by effect s e r))) l
     unfolding session_at with_stream with_changed without_stream with_request without_request
-    of-streams Nothing e r = kept_same g no_stream ts l n hl says.stream_count_fits ts_length back
-    of-streams StreamMade e r = kept_add g no_stream ts l n hl says.stream_count_fits ts_length back e
-    of-streams StreamSet e r = kept_put g no_stream ts l n hl says.stream_count_fits ts_length back stream_number e
-    of-streams StreamRemoved e r = kept_cut g no_stream ts l n hl says.stream_count_fits ts_length back stream_number e.id.0 (g e)
-    of-streams RequestFiled e r = kept_same g no_stream ts l n hl says.stream_count_fits ts_length back
-    of-streams (ConnectFiled encoding) e r = kept_same g no_stream ts l n hl says.stream_count_fits ts_length back
-    of-streams ConnectAccepted e r = kept_same g no_stream ts l n hl says.stream_count_fits ts_length back
-    of-streams StreamAccepted e r = kept_put g no_stream ts l n hl says.stream_count_fits ts_length back stream_number e
-    of-streams RequestRemoved e r = kept_same g no_stream ts l n hl says.stream_count_fits ts_length back
+    of_streams Nothing e r = kept_same g no_stream ts l n hl says.stream_count_fits ts_length back
+    of_streams StreamMade e r = kept_add g no_stream ts l n hl says.stream_count_fits ts_length back e
+    of_streams StreamSet e r = kept_put g no_stream ts l n hl says.stream_count_fits ts_length back stream_number e
+    of_streams StreamRemoved e r = kept_cut g no_stream ts l n hl says.stream_count_fits ts_length back stream_number e.id.0 (g e)
+    of_streams RequestFiled e r = kept_same g no_stream ts l n hl says.stream_count_fits ts_length back
+    of_streams (ConnectFiled encoding) e r = kept_same g no_stream ts l n hl says.stream_count_fits ts_length back
+    of_streams ConnectAccepted e r = kept_same g no_stream ts l n hl says.stream_count_fits ts_length back
+    of_streams StreamAccepted e r = kept_put g no_stream ts l n hl says.stream_count_fits ts_length back stream_number e
+    of_streams RequestRemoved e r = kept_same g no_stream ts l n hl says.stream_count_fits ts_length back
 
   module _ (g : Request → List ℕ) (l : List (List ℕ)) (hl : length l ≡ 16) (back : map g rs ≡ take m l) where
-    of-requests :
+    of_requests :
         (effect : Effect) (e : Stream) (r : Request)
         → edited (g no_request) (request_edit effect (place_in request_number r.id.0 rs)) m (g r) l ≡ onto (map g (requests_of m (applied_by effect s e r))) l
     unfolding session_at with_stream with_changed without_stream with_request without_request
-    of-requests Nothing e r = kept_same g no_request rs l m hl says.request_count_fits rs_length back
-    of-requests StreamMade e r = kept_same g no_request rs l m hl says.request_count_fits rs_length back
-    of-requests StreamSet e r = kept_same g no_request rs l m hl says.request_count_fits rs_length back
-    of-requests StreamRemoved e r = kept_same g no_request rs l m hl says.request_count_fits rs_length back
-    of-requests RequestFiled e r = kept_add g no_request rs l m hl says.request_count_fits rs_length back r
-    of-requests (ConnectFiled encoding) e r = kept_add g no_request rs l m hl says.request_count_fits rs_length back r
-    of-requests ConnectAccepted e r = kept_cut g no_request rs l m hl says.request_count_fits rs_length back request_number r.id.0 (g r)
-    of-requests StreamAccepted e r = kept_cut g no_request rs l m hl says.request_count_fits rs_length back request_number r.id.0 (g r)
-    of-requests RequestRemoved e r = kept_cut g no_request rs l m hl says.request_count_fits rs_length back request_number r.id.0 (g r)
+    of_requests Nothing e r = kept_same g no_request rs l m hl says.request_count_fits rs_length back
+    of_requests StreamMade e r = kept_same g no_request rs l m hl says.request_count_fits rs_length back
+    of_requests StreamSet e r = kept_same g no_request rs l m hl says.request_count_fits rs_length back
+    of_requests StreamRemoved e r = kept_same g no_request rs l m hl says.request_count_fits rs_length back
+    of_requests RequestFiled e r = kept_add g no_request rs l m hl says.request_count_fits rs_length back r
+    of_requests (ConnectFiled encoding) e r = kept_add g no_request rs l m hl says.request_count_fits rs_length back r
+    of_requests ConnectAccepted e r = kept_cut g no_request rs l m hl says.request_count_fits rs_length back request_number r.id.0 (g r)
+    of_requests StreamAccepted e r = kept_cut g no_request rs l m hl says.request_count_fits rs_length back request_number r.id.0 (g r)
+    of_requests RequestRemoved e r = kept_cut g no_request rs l m hl says.request_count_fits rs_length back request_number r.id.0 (g r)
 
   of_facts : (effect : Effect) (e : Stream) (r : Request) → facts_after effect r.name.len facts ≡ facts_of (applied_by effect s e r)
   unfolding session_at with_stream with_changed without_stream with_request without_request
@@ -201,20 +201,20 @@ module _ (facts : List ℕ) (streams requests names : List (List ℕ)) (shape : 
       let mm : in_use m ≡ m = omega (arith, says.request_count_fits) in
       let pp : stream_place a c ≡ place_in stream_number c.stream.id.0 ts =
       ap (λ (j : ℕ). place_in row_id c.stream.id.0 (take j streams)) nn
-      ∙ sym (place-joined stream_of stream_number c.stream.id.0 (λ row bytes. refl) n streams (keys_of names) (shape.sixteen_streams ∙ sym keys_length)) in
+      ∙ sym (place_joined stream_of stream_number c.stream.id.0 (λ row bytes. refl) n streams (keys_of names) (shape.sixteen_streams ∙ sym keys_length)) in
       let qq : request_place a c ≡ place_in request_number c.request.id.0 rs =
       ap (λ (j : ℕ). place_in row_id c.request.id.0 (take j requests)) mm
-      ∙ sym (place-joined request_of request_number c.request.id.0 (λ row bytes. refl) m requests (titles_of names) (shape.sixteen_requests ∙ sym titles_length)) in
+      ∙ sym (place_joined request_of request_number c.request.id.0 (λ row bytes. refl) m requests (titles_of names) (shape.sixteen_requests ∙ sym titles_length)) in
       (λ i. edited_by (stream_edit c.effect (pp i)) (request_edit c.effect (qq i)) (nn i) (mm i) a c)
       ∙ (λ i. (
         of_facts c.effect c.stream c.request i,
         (
-          of-streams stream_row streams shape.sixteen_streams stream_rows_back c.effect c.stream c.request i,
+          of_streams stream_row streams shape.sixteen_streams stream_rows_back c.effect c.stream c.request i,
           (
-            of-requests request_row requests shape.sixteen_requests request_rows_back c.effect c.stream c.request i,
+            of_requests request_row requests shape.sixteen_requests request_rows_back c.effect c.stream c.request i,
             of_version c.effect c.stream c.request i
                 ∷ of_app c.effect c.stream c.request i
-                ∷ (of-streams key_bytes (keys_of names) keys_length keys_back c.effect c.stream c.request i ++ of-requests title_bytes (titles_of names) titles_length titles_back c.effect c.stream c.request i),
+                ∷ (of_streams key_bytes (keys_of names) keys_length keys_back c.effect c.stream c.request i ++ of_requests title_bytes (titles_of names) titles_length titles_back c.effect c.stream c.request i),
           ),
         ),
       ))

@@ -105,22 +105,22 @@ module _ {A : Type 0} (f : List ℕ → List ℕ → A) where
       let a = both (readable row) _ e in
       λ i. back row bytes a.0 w.0 i ∷ rows_back row_of readable k back n rows names (omega (arith, h)) a.1 w.1 i
 
-  pub names-back :
+  pub names_back :
       (bytes_of : A → List ℕ) → ((row bytes : List ℕ) → bytes_of (f row bytes) ≡ bytes)
       → (n : ℕ) (rows names : List (List ℕ)) → length rows ≡ length names → map bytes_of (take n (joined f rows names)) ≡ take n names
   unfolding joined
-  names-back bytes_of back zero rows names h = refl
-  names-back bytes_of back (suc n) [] [] h = refl
-  names-back bytes_of back (suc n) [] (bytes ∷ names) h = absurd (omega (arith, h))
-  names-back bytes_of back (suc n) (row ∷ rows) [] h = absurd (omega (arith, h))
-  names-back bytes_of back (suc n) (row ∷ rows) (bytes ∷ names) h = λ i. back row bytes i ∷ names-back bytes_of back n rows names (omega (arith, h)) i
+  names_back bytes_of back zero rows names h = refl
+  names_back bytes_of back (suc n) [] [] h = refl
+  names_back bytes_of back (suc n) [] (bytes ∷ names) h = absurd (omega (arith, h))
+  names_back bytes_of back (suc n) (row ∷ rows) [] h = absurd (omega (arith, h))
+  names_back bytes_of back (suc n) (row ∷ rows) (bytes ∷ names) h = λ i. back row bytes i ∷ names_back bytes_of back n rows names (omega (arith, h)) i
 
-  pub place-joined :
+  pub place_joined :
       (number : A → ℕ) (id : ℕ) → ((row bytes : List ℕ) → number (f row bytes) ≡ row_id row)
       → (n : ℕ) (rows names : List (List ℕ)) → length rows ≡ length names → place_in number id (take n (joined f rows names)) ≡ place_in row_id id (take n rows)
   unfolding joined place_in
-  place-joined number id says zero rows names h = refl
-  place-joined number id says (suc n) [] names h = refl
-  place-joined number id says (suc n) (row ∷ rows) [] h = absurd (omega (arith, h))
-  place-joined number id says (suc n) (row ∷ rows) (bytes ∷ names) h =
-      λ i. pick (eqb (says row bytes i) id) 0 (suc (place-joined number id says n rows names (omega (arith, h)) i))
+  place_joined number id says zero rows names h = refl
+  place_joined number id says (suc n) [] names h = refl
+  place_joined number id says (suc n) (row ∷ rows) [] h = absurd (omega (arith, h))
+  place_joined number id says (suc n) (row ∷ rows) (bytes ∷ names) h =
+      λ i. pick (eqb (says row bytes i) id) 0 (suc (place_joined number id says n rows names (omega (arith, h)) i))

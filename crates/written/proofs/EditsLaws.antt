@@ -108,12 +108,12 @@ module _ {A : Type 0} (keys : List A) (k : length keys ≡ 16) where
         ∙ append_assoc (take 2 names) keys titles
 
 -- and the app's
-pub app-edited :
+pub app_edited :
     (f : List ℕ → List ℕ) (names keys titles : List (List ℕ)) → length names ≡ 34 → (between last : List (List ℕ)) → between ≡ take 2 names ++ (keys ++ titles) → last ≡ set between 1 (f (get_or between 1 []))
     → last ≡ names_after names (f (get_or names 1 [])) keys titles
-app-edited f [] keys titles h between last e q = absurd (omega (arith, h))
-app-edited f (x ∷ []) keys titles h between last e q = absurd (omega (arith, h))
-app-edited f (x ∷ y ∷ rest) keys titles h between last e q = q ∙ ap (λ (t : List (List ℕ)). set t 1 (f (get_or t 1 []))) e
+app_edited f [] keys titles h between last e q = absurd (omega (arith, h))
+app_edited f (x ∷ []) keys titles h between last e q = absurd (omega (arith, h))
+app_edited f (x ∷ y ∷ rest) keys titles h between last e q = q ∙ ap (λ (t : List (List ℕ)). set t 1 (f (get_or t 1 []))) e
 
 -- ---- all of a change, from its steps
 module _
@@ -126,12 +126,12 @@ module _
       let qq : q ≡ request_place a c = kq ∙ ap (λ (j : ℕ). place_in row_id c.request.id.0 (take j a.1.1.0)) km in
       λ i. edited_by ((ke ∙ ap (stream_edit c.effect) pp) i) ((kf ∙ ap (request_edit c.effect) qq) i) (kn i) (km i) a c
 
-  pub applied-as :
+  pub applied_as :
       (row line facts : List ℕ) (streams requests names : List (List ℕ)) → row ≡ stream_row c.stream → line ≡ request_row c.request
       → facts ≡ facts_after c.effect c.request.name.len a.0 → streams ≡ edited (stream_row no_stream) e n row a.1.0 → requests ≡ edited (request_row no_request) f m line a.1.1.0
       → names ≡ names_after a.1.1.1 (app_after c.effect (title_bytes c.request) (get_or a.1.1.1 1 [])) (edited blank_bytes e n (key_bytes c.stream) (keys_of a.1.1.1)) (edited blank_bytes f m (title_bytes c.request) (titles_of a.1.1.1))
       → ◌≡◌ {A = Arrays} (facts, (streams, (requests, names))) (applied_at a c)
-  applied-as row line facts streams requests names kr kl k0 k1 k2 k3 =
+  applied_as row line facts streams requests names kr kl k0 k1 k2 k3 =
       let z : ◌≡◌ {A = Arrays} (facts, (streams, (requests, names))) (edited_by e f n m a c) =
       λ i. (k0 i, ((k1 ∙ ap (λ (t : List ℕ). edited (stream_row no_stream) e n t a.1.0) kr) i, ((k2 ∙ ap (λ (t : List ℕ). edited (request_row no_request) f m t a.1.1.0) kl) i, k3 i))) in
       z ∙ all_steps

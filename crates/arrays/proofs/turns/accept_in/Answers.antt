@@ -5,7 +5,7 @@ use Rattle.session.specs.declared.session.Session.{Session}
 use Rattle.decisions.specs.Answers.{accepted}
 use Rattle.replies.specs.Finishing.{finishing}
 use Rattle.arrays.specs.Turns.{keeps}
-use Rattle.arrays.proofs.TurnsLaws.{turn-open, turn_shut}
+use Rattle.arrays.proofs.TurnsLaws.{turn_open, turn_shut}
 use mathlib.Core.Path.{ap}
 use mathlib.Core.Bool.{not}
 use Rattle.arrays.proofs.turns.accept_in.Goals as goal
@@ -20,4 +20,4 @@ conclude-requires c = sym c.image_sound.ensures ∙ not-false _ (ap not c.if-not
 
 pub returns : goal.returns
 unfolding keeps
-returns c = let a = c.args in turn-open a.facts.now a.streams.now a.requests.now a.names.now 11 a.out.now (λ (z : Session). finishing z (accepted z (record { 0 = a.request })) [] [] a.clock a.out.now) _ c.image_sound.ensures c.if-not-image_sound.false _ c.conclude.ensures
+returns c = let a = c.args in turn_open a.facts.now a.streams.now a.requests.now a.names.now 11 a.out.now (λ (z : Session). finishing z (accepted z (record { 0 = a.request })) [] [] a.clock a.out.now) _ c.image_sound.ensures c.if-not-image_sound.false _ c.conclude.ensures

@@ -3,7 +3,7 @@ use mathlib.Core.Path.{refl, sym, ◌∙◌}
 use Rattle.session.specs.declared.session.Session.{Session}
 use Rattle.messages.specs.Messages.{by_type}
 use Rattle.arrays.specs.Turns.{keeps}
-use Rattle.arrays.proofs.TurnsLaws.{turn-open, turn_shut}
+use Rattle.arrays.proofs.TurnsLaws.{turn_open, turn_shut}
 use mathlib.Core.Path.{ap}
 use mathlib.Core.Bool.{not}
 use Rattle.arrays.proofs.turns.message_in.Goals as goal
@@ -18,4 +18,4 @@ by_type_in-requires c = sym c.image_sound.ensures ∙ not-false _ (ap not c.if-n
 
 pub returns : goal.returns
 unfolding keeps
-returns c = let a = c.args in turn-open a.facts.now a.streams.now a.requests.now a.names.now 0 a.out.now (λ (z : Session). by_type z a.kind (record { 0 = a.stream }) a.timestamp a.clock a.body.now a.out.now) _ c.image_sound.ensures c.if-not-image_sound.false _ c.by_type_in.ensures
+returns c = let a = c.args in turn_open a.facts.now a.streams.now a.requests.now a.names.now 0 a.out.now (λ (z : Session). by_type z a.kind (record { 0 = a.stream }) a.timestamp a.clock a.body.now a.out.now) _ c.image_sound.ensures c.if-not-image_sound.false _ c.by_type_in.ensures
