@@ -1,49 +1,54 @@
 // The set fields, each with a blank behind it.
-use crate::show::{bytes, say};
-use libc::STDOUT_FILENO;
+use crate::show::{bytes, number, say};
 use metadata::StreamMetadata;
+use std::io;
+use std::io::Write;
 use text::Name;
 
-fn whole(name: &[u8], set: bool, x: u32) {
+fn whole(output: &mut impl Write, name: &[u8], set: bool, x: u32) -> io::Result<()> {
     if set {
-        say(name);
-        io::print_decimal(STDOUT_FILENO, x as u64);
-        say(b" ");
+        say(output, name)?;
+        number(output, x as u64)?;
+        say(output, b" ")?;
     }
+    Ok(())
 }
 
 // The single's own digits.
-fn rate(set: bool, x: f32) {
+fn rate(output: &mut impl Write, set: bool, x: f32) -> io::Result<()> {
     if set {
         let single = numbers::single_of(numbers::bits_of_f32(x));
         let mut four = [0u8; 4];
         numbers::write_field_at(&mut four, 0, 4, single as u64);
-        say(b"framerate=");
-        bytes(&four, 4);
-        say(b" ");
+        say(output, b"framerate=")?;
+        bytes(output, &four, 4)?;
+        say(output, b" ")?;
     }
+    Ok(())
 }
 
-fn flag(set: bool, b: bool) {
+fn flag(output: &mut impl Write, set: bool, b: bool) -> io::Result<()> {
     if set {
         if b {
-            say(b"stereo=1 ");
+            say(output, b"stereo=1 ")?;
         } else {
-            say(b"stereo=0 ");
+            say(output, b"stereo=0 ")?;
         }
     }
+    Ok(())
 }
 
-fn encoder(set: bool, name: Name) {
+fn encoder(output: &mut impl Write, set: bool, name: Name) -> io::Result<()> {
     if set {
         let own = name.bytes;
-        say(b"encoder=");
+        say(output, b"encoder=")?;
         if name.len == 0 {
-            say(b"-");
+            say(output, b"-")?;
         }
-        bytes(&own, name.len);
-        say(b" ");
+        bytes(output, &own, name.len)?;
+        say(output, b" ")?;
     }
+    Ok(())
 }
 
 fn some_set(m: StreamMetadata) -> bool {
@@ -60,33 +65,51 @@ fn some_set(m: StreamMetadata) -> bool {
         || m.has_encoder
 }
 
-pub fn write_fields(m: StreamMetadata) {
+pub fn write_fields(output: &mut impl Write, m: StreamMetadata) -> io::Result<()> {
     let name = m.encoder;
     if some_set(m) {
-        whole(b"width=", m.has_video_width, m.video_width);
-        whole(b"height=", m.has_video_height, m.video_height);
-        whole(b"videocodecid=", m.has_video_codec_id, m.video_codec_id);
+        whole(output, b"width=", m.has_video_width, m.video_width)?;
+        whole(output, b"height=", m.has_video_height, m.video_height)?;
         whole(
+            output,
+            b"videocodecid=",
+            m.has_video_codec_id,
+            m.video_codec_id,
+        )?;
+        whole(
+            output,
             b"videodatarate=",
             m.has_video_bitrate_kbps,
             m.video_bitrate_kbps,
-        );
-        rate(m.has_video_frame_rate, m.video_frame_rate);
-        whole(b"audiocodecid=", m.has_audio_codec_id, m.audio_codec_id);
+        )?;
+        rate(output, m.has_video_frame_rate, m.video_frame_rate)?;
         whole(
+            output,
+            b"audiocodecid=",
+            m.has_audio_codec_id,
+            m.audio_codec_id,
+        )?;
+        whole(
+            output,
             b"audiodatarate=",
             m.has_audio_bitrate_kbps,
             m.audio_bitrate_kbps,
-        );
+        )?;
         whole(
+            output,
             b"audiosamplerate=",
             m.has_audio_sample_rate,
             m.audio_sample_rate,
-        );
-        whole(b"audiochannels=", m.has_audio_channels, m.audio_channels);
-        flag(m.has_audio_is_stereo, m.audio_is_stereo);
-        encoder(m.has_encoder, name);
+        )?;
+        whole(
+            output,
+            b"audiochannels=",
+            m.has_audio_channels,
+            m.audio_channels,
+        )?;
+        flag(output, m.has_audio_is_stereo, m.audio_is_stereo)?;
+        encoder(output, m.has_encoder, name)
     } else {
-        say(b"empty ");
+        say(output, b"empty ")
     }
 }

@@ -8,51 +8,56 @@ mod sending;
 mod show;
 
 use digits::read_bytes;
-use libc::STDIN_FILENO;
+use input::read_full;
 use show::say;
+use std::io;
+use std::io::{BufWriter, Read, Write};
 
-fn write_line(body: &[u8]) {
+fn write_line(output: &mut impl Write, body: &[u8]) -> io::Result<()> {
     let read = metadata::read_metadata(body, 0);
     let m = read.metadata;
     if read.encoder_fits {
-        fields::write_fields(m);
-        sending::write_record(m);
-        say(b"\n");
+        fields::write_fields(output, m)?;
+        sending::write_record(output, m)?;
+        say(output, b"\n")
     } else {
-        say(b"long\n");
+        say(output, b"long\n")
     }
 }
 
 // Whether there was another whole line.
-fn next() -> bool {
+fn next(input: &mut impl Read, output: &mut impl Write) -> io::Result<bool> {
     let mut kind = [0u8; 2];
-    let got = io::read_full(STDIN_FILENO, &mut kind);
-    if got < 2 {
-        return false;
+    if read_full(input, &mut kind)? < 2 {
+        return Ok(false);
     }
     if kind[0] != b'm' {
-        return false;
+        return Ok(false);
     }
     let mut count = [0u8; 2];
     let mut bytes = [0u8; 4200];
-    if read_bytes(&mut count, 2) {
+    if read_bytes(input, &mut count, 2)? {
         let n = numbers::u16_at(&count, 0) as usize;
-        if read_bytes(&mut bytes, n) {
-            write_line(text::text_of(&bytes, n));
-            return true;
+        if read_bytes(input, &mut bytes, n)? {
+            write_line(output, text::text_of(&bytes, n))?;
+            return Ok(true);
         }
     }
-    false
+    Ok(false)
 }
 
 // A proved loop has to end: the count is one that no file of vectors reaches.
-fn run_all() {
-    let mut turns: u32 = 4294967295;
-    while turns > 0 && next() {
-        turns -= 1;
+fn run_all(input: &mut impl Read, output: &mut impl Write) -> io::Result<()> {
+    for _ in 0..u32::MAX {
+        if !next(input, output)? {
+            break;
+        }
     }
+    Ok(())
 }
 
-fn main() {
-    run_all();
+fn main(rt: HostRuntime) -> io::Result<()> {
+    let mut output = BufWriter::new(rt.alloc(), rt.stdout())?;
+    run_all(&mut rt.stdin(), &mut output)?;
+    output.flush()
 }

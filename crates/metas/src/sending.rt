@@ -1,8 +1,9 @@
 // The record of the metadata, into a buffer of A5.
-use crate::show::{bytes, kept, say};
+use crate::show::{bytes, kept, number, say};
 use answers::Sent;
-use libc::STDOUT_FILENO;
 use metadata::StreamMetadata;
+use std::io;
+use std::io::Write;
 use text::StreamId;
 
 // Into the first n bytes alone.
@@ -32,31 +33,36 @@ fn comes_back(out: &[u8], body: &[u8]) -> bool {
     sent.fits && text::is_word(out, &again)
 }
 
-fn write_tests(m: StreamMetadata, out: &[u8], count: usize) {
+fn write_tests(
+    output: &mut impl Write,
+    m: StreamMetadata,
+    out: &[u8],
+    count: usize,
+) -> io::Result<()> {
     if count < 13 {
-        return;
+        return Ok(());
     }
     if refused(count - 1, m) {
-        say(b" short");
+        say(output, b" short")?;
     } else {
-        say(b" NOTSHORT");
+        say(output, b" NOTSHORT")?;
     }
     if comes_back(out, text::part_of(out, 13, count - 13)) {
-        say(b" back");
+        say(output, b" back")
     } else {
-        say(b" NOTBACK");
+        say(output, b" NOTBACK")
     }
 }
 
-pub fn write_record(m: StreamMetadata) {
+pub fn write_record(output: &mut impl Write, m: StreamMetadata) -> io::Result<()> {
     let mut out = [0xA5u8; 600];
     let sent = send(&mut out, 600, m);
-    say(b"record=");
-    io::print_decimal(STDOUT_FILENO, sent.count as u64);
-    say(b":");
-    bytes(&out, sent.count);
+    say(output, b"record=")?;
+    number(output, sent.count as u64)?;
+    say(output, b":")?;
+    bytes(output, &out, sent.count)?;
     if !kept(&out, sent.count) {
-        say(b" spilt");
+        say(output, b" spilt")?;
     }
-    write_tests(m, &out, sent.count);
+    write_tests(output, m, &out, sent.count)
 }

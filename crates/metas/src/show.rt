@@ -1,37 +1,29 @@
 // What the program writes with.
-use libc::STDOUT_FILENO;
+use std::io;
+use std::io::Write;
 
-pub fn say(words: &[u8]) {
-    io::write_all(STDOUT_FILENO, words);
+pub fn say(output: &mut impl Write, words: &[u8]) -> io::Result<()> {
+    output.write_all(words)
+}
+
+pub fn number(output: &mut impl Write, x: u64) -> io::Result<()> {
+    write!(output, "{x}")
 }
 
 // In upper case, as the digits that are read.
-fn byte(b: u8) {
-    let digits = b"0123456789ABCDEF";
-    say(&[digits[(b / 16) as usize], digits[(b % 16) as usize]]);
+fn byte(output: &mut impl Write, b: u8) -> io::Result<()> {
+    write!(output, "{b:02X}")
 }
 
 // The first n bytes.
-pub fn bytes(out: &[u8], n: usize) {
-    let mut i = 0;
-    while i < out.len() {
-        if i < n {
-            byte(out[i]);
-        }
-        i += 1;
+pub fn bytes(output: &mut impl Write, out: &[u8], n: usize) -> io::Result<()> {
+    for b in out.iter().take(n) {
+        byte(output, *b)?;
     }
+    Ok(())
 }
 
 // Whether every byte from n on is still A5.
 pub fn kept(out: &[u8], n: usize) -> bool {
-    let mut i = 0;
-    while i < out.len() {
-        if n <= i {
-            if out[i] != 0xA5 {
-                return false;
-            }
-        }
-        i += 1;
-    }
-    true
+    out.iter().skip(n).all(|b| *b == 0xA5)
 }

@@ -2,62 +2,63 @@
 use crate::digits::read_bytes;
 use crate::show::{hex, line, say};
 use amf0::{Amf0Value, Checked, Cursor, Found};
+use std::io;
+use std::io::{Read, Write};
 
 // A text's bytes, where they are in the body.
-fn write_text(body: &[u8], start: usize, len: usize) {
+fn write_text(output: &mut impl Write, body: &[u8], start: usize, len: usize) -> io::Result<()> {
     if len == 0 {
-        say(b"-");
-        return;
+        return say(output, b"-");
     }
     if body.len() < start {
-        return;
+        return Ok(());
     }
     if body.len() - start < len {
-        return;
+        return Ok(());
     }
-    let mut i = 0;
-    while i < len {
-        hex(numbers::byte_at(body, start + i) as u64, 2);
-        i += 1;
+    for b in &body[start..start + len] {
+        hex(output, *b as u64, 2)?;
     }
+    Ok(())
 }
 
-fn write_number(body: &[u8], at: usize) {
-    say(b"number=");
+fn write_number(output: &mut impl Write, body: &[u8], at: usize) -> io::Result<()> {
+    say(output, b"number=")?;
     if at < body.len() {
-        hex(numbers::u64_at(body, at + 1), 16);
+        hex(output, numbers::u64_at(body, at + 1), 16)?;
     }
+    Ok(())
 }
 
-fn write_boolean(b: bool) {
+fn write_boolean(output: &mut impl Write, b: bool) -> io::Result<()> {
     if b {
-        say(b"boolean=1");
+        say(output, b"boolean=1")
     } else {
-        say(b"boolean=0");
+        say(output, b"boolean=0")
     }
 }
 
-fn write_value(body: &[u8], at: usize) {
+fn write_value(output: &mut impl Write, body: &[u8], at: usize) -> io::Result<()> {
     let read = amf0::read_value(body, at);
     let value = read.value;
     match value {
-        Amf0Value::Number(_) => write_number(body, at),
-        Amf0Value::Boolean(b) => write_boolean(b),
+        Amf0Value::Number(_) => write_number(output, body, at),
+        Amf0Value::Boolean(b) => write_boolean(output, b),
         Amf0Value::Text { start, len } => {
-            say(b"string=");
-            write_text(body, start, len);
+            say(output, b"string=")?;
+            write_text(output, body, start, len)
         }
-        Amf0Value::Object { start: _ } => say(b"object"),
-        Amf0Value::Null => say(b"null"),
-        Amf0Value::Undefined => say(b"undefined"),
-        Amf0Value::EcmaArray { start: _ } => say(b"array"),
-        Amf0Value::StrictArray { start: _ } => say(b"strict"),
-        Amf0Value::Date => say(b"date"),
+        Amf0Value::Object { start: _ } => say(output, b"object"),
+        Amf0Value::Null => say(output, b"null"),
+        Amf0Value::Undefined => say(output, b"undefined"),
+        Amf0Value::EcmaArray { start: _ } => say(output, b"array"),
+        Amf0Value::StrictArray { start: _ } => say(output, b"strict"),
+        Amf0Value::Date => say(output, b"date"),
         Amf0Value::LongText { start, len } => {
-            say(b"long=");
-            write_text(body, start, len);
+            say(output, b"long=")?;
+            write_text(output, body, start, len)
         }
-        Amf0Value::NoValue => say(b"none"),
+        Amf0Value::NoValue => say(output, b"none"),
     }
 }
 
@@ -72,21 +73,22 @@ fn has_properties(body: &[u8], at: usize) -> bool {
 }
 
 // The value of the last property "a".
-fn write_property(body: &[u8], at: usize) {
-    say(b"[");
+fn write_property(output: &mut impl Write, body: &[u8], at: usize) -> io::Result<()> {
+    say(output, b"[")?;
     match amf0::last_property(body, at, b"a") {
-        Found::At(p) => write_value(body, p),
-        Found::Missing => say(b"none"),
+        Found::At(p) => write_value(output, body, p)?,
+        Found::Missing => say(output, b"none")?,
     }
-    say(b"]");
+    say(output, b"]")
 }
 
-fn write_one(body: &[u8], at: usize) {
-    say(b" ");
-    write_value(body, at);
+fn write_one(output: &mut impl Write, body: &[u8], at: usize) -> io::Result<()> {
+    say(output, b" ")?;
+    write_value(output, body, at)?;
     if has_properties(body, at) {
-        write_property(body, at);
+        write_property(output, body, at)?;
     }
+    Ok(())
 }
 
 // Whether the cursor stands where the n-th value begins. (Only the first ones are looked up from the start.)
@@ -98,49 +100,48 @@ fn in_place(body: &[u8], n: usize, at: usize) -> bool {
 }
 
 // The values one after the other, by a cursor.
-fn write_values(body: &[u8]) {
-    let mut n = 0;
+fn write_values(output: &mut impl Write, body: &[u8]) -> io::Result<()> {
     let mut at = Cursor::start().at;
-    while n < body.len() {
+    for n in 0..body.len() {
         if body.len() <= at {
-            return;
+            break;
         }
         if in_place(body, n, at) {
-            write_one(body, at);
+            write_one(output, body, at)?;
         } else {
-            say(b" misplaced");
+            say(output, b" misplaced")?;
         }
         let here = Cursor { at };
         let next = here.next(body);
         at = next.at;
-        n += 1;
     }
+    Ok(())
 }
 
-fn write_body(body: &[u8]) {
+fn write_body(output: &mut impl Write, body: &[u8]) -> io::Result<()> {
     match amf0::check_body(body) {
         Checked::Whole => {
-            say(b"whole");
-            write_values(body);
+            say(output, b"whole")?;
+            write_values(output, body)?;
         }
-        Checked::Bad => say(b"bad"),
-        Checked::Deep => say(b"deep"),
+        Checked::Bad => say(output, b"bad")?,
+        Checked::Deep => say(output, b"deep")?,
     }
-    line();
+    line(output)
 }
 
 // Its length in four digits, and it. Whether there was a whole one.
-pub fn run_body() -> bool {
+pub fn run_body(input: &mut impl Read, output: &mut impl Write) -> io::Result<bool> {
     let mut count = [0u8; 2];
-    if read_bytes(&mut count, 2) {
+    if read_bytes(input, &mut count, 2)? {
         let n = numbers::u16_at(&count, 0) as usize;
         let mut bytes = [0u8; 4200];
-        if read_bytes(&mut bytes, n) {
+        if read_bytes(input, &mut bytes, n)? {
             if n <= 4200 {
-                write_body(&bytes[..n]);
-                return true;
+                write_body(output, &bytes[..n])?;
+                return Ok(true);
             }
         }
     }
-    false
+    Ok(false)
 }

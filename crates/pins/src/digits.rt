@@ -1,7 +1,9 @@
 // Hexadecimal digits on standard input.
 ghost use Rattle.std.specs.Prelude.{◌+◌, ◌*◌, ◌≤◌, ◌<◌, length};
 
-use libc::STDIN_FILENO;
+use input::read_full;
+use std::io;
+use std::io::Read;
 
 // The value of a hexadecimal digit; 0 for any other byte.
 fn digit(b: u8) -> u8
@@ -26,33 +28,31 @@ fn digit(b: u8) -> u8
 fn decode(digits: &[u8], bytes: &mut [u8], n: usize)
     requires { (2 * n ≤ length digits.now) × (n ≤ length bytes.old) }
 {
-    let mut i = 0;
-    while i < n {
+    for i in 0..n {
         bytes[i] = digit(digits[2 * i]) * 16 + digit(digits[2 * i + 1]);
-        i += 1;
     }
 }
 
 // Reads so many digits to the front. Whether they were there.
-fn read_digits(digits: &mut [u8], wanted: usize) -> bool {
+fn read_digits(input: &mut impl Read, digits: &mut [u8], wanted: usize) -> io::Result<bool> {
     if digits.len() < wanted {
-        return false;
+        return Ok(false);
     }
-    let got = io::read_full(STDIN_FILENO, &mut digits[..wanted]);
-    wanted <= got
+    let got = read_full(input, &mut digits[..wanted])?;
+    Ok(wanted <= got)
 }
 
 // Reads n bytes as digits, and the byte behind them. Whether they were there, and fit.
-pub fn read_bytes(bytes: &mut [u8], n: usize) -> bool {
+pub fn read_bytes(input: &mut impl Read, bytes: &mut [u8], n: usize) -> io::Result<bool> {
     let mut digits = [0u8; 8402];
     if 4200 < n {
-        return false;
+        return Ok(false);
     }
-    if read_digits(&mut digits, 2 * n + 1) {
+    if read_digits(input, &mut digits, 2 * n + 1)? {
         if n <= bytes.len() {
             decode(&digits, bytes, n);
-            return true;
+            return Ok(true);
         }
     }
-    false
+    Ok(false)
 }

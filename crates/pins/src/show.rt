@@ -1,68 +1,71 @@
 // What the program writes. Every line says what went in and what came out.
-use libc::STDOUT_FILENO;
 use numbers::{PlayDuration, PlayStartValue};
+use std::io;
+use std::io::Write;
 use text::{Command, ModeWord, PublishMode};
 
-pub fn say(words: &[u8]) {
-    io::write_all(STDOUT_FILENO, words);
+pub fn say(output: &mut impl Write, words: &[u8]) -> io::Result<()> {
+    output.write_all(words)
 }
 
-pub fn line() {
-    io::write_all(STDOUT_FILENO, b"\n");
+pub fn line(output: &mut impl Write) -> io::Result<()> {
+    say(output, b"\n")
 }
 
-pub fn hex(x: u64, width: usize) {
-    io::print_hex(STDOUT_FILENO, x, width);
+// With zeros in front, up to `width` digits.
+pub fn hex(output: &mut impl Write, x: u64, width: usize) -> io::Result<()> {
+    write!(output, "{x:0width$x}")
 }
 
-pub fn number(x: u64) {
-    io::print_decimal(STDOUT_FILENO, x);
+pub fn number(output: &mut impl Write, x: u64) -> io::Result<()> {
+    write!(output, "{x}")
 }
 
-pub fn show_u32(what: &[u8], bits: u64) {
-    say(what);
-    number(numbers::u32_of(bits) as u64);
-    line();
+pub fn show_u32(output: &mut impl Write, what: &[u8], bits: u64) -> io::Result<()> {
+    say(output, what)?;
+    number(output, numbers::u32_of(bits) as u64)?;
+    line(output)
 }
 
 // The single as the whole number that it is.
-pub fn show_single(what: &[u8], bits: u64) {
-    say(what);
-    number(numbers::u32_of(numbers::double_of_single(numbers::single_of(bits))) as u64);
-    line();
+pub fn show_single(output: &mut impl Write, what: &[u8], bits: u64) -> io::Result<()> {
+    let single = numbers::double_of_single(numbers::single_of(bits));
+    say(output, what)?;
+    number(output, numbers::u32_of(single) as u64)?;
+    line(output)
 }
 
-pub fn show_double(what: &[u8], n: u32) {
-    say(what);
-    hex(numbers::double_of_u32(n), 16);
-    line();
+pub fn show_double(output: &mut impl Write, what: &[u8], n: u32) -> io::Result<()> {
+    say(output, what)?;
+    hex(output, numbers::double_of_u32(n), 16)?;
+    line(output)
 }
 
-pub fn write_start(bits: u64) {
+pub fn write_start(output: &mut impl Write, bits: u64) -> io::Result<()> {
     match numbers::start_of(bits) {
-        PlayStartValue::LiveOrRecorded => say(b"live-or-recorded"),
-        PlayStartValue::LiveOnly => say(b"live-only"),
-        PlayStartValue::StartTimeInSeconds(n) => number(n as u64),
+        PlayStartValue::LiveOrRecorded => say(output, b"live-or-recorded"),
+        PlayStartValue::LiveOnly => say(output, b"live-only"),
+        PlayStartValue::StartTimeInSeconds(n) => number(output, n as u64),
     }
 }
 
-pub fn write_duration(bits: u64) {
+pub fn write_duration(output: &mut impl Write, bits: u64) -> io::Result<()> {
     match numbers::duration_of(bits) {
-        PlayDuration::Unlimited => say(b"none"),
-        PlayDuration::Seconds(n) => number(n as u64),
+        PlayDuration::Unlimited => say(output, b"none"),
+        PlayDuration::Seconds(n) => number(output, n as u64),
     }
 }
 
-pub fn show_start(what: &[u8], bits: u64) {
-    say(what);
-    write_start(bits);
-    line();
+pub fn show_start(output: &mut impl Write, what: &[u8], bits: u64) -> io::Result<()> {
+    say(output, what)?;
+    write_start(output, bits)?;
+    line(output)
 }
 
-pub fn show_duration(what: &[u8], bits: u64) {
-    say(what);
-    write_duration(bits);
-    line();
+pub fn show_duration(output: &mut impl Write, what: &[u8], bits: u64) -> io::Result<()> {
+    say(output, what)?;
+    write_duration(output, bits)?;
+    line(output)
 }
 
 // Fields of 1, 2, 3, 4 and 8 bytes, one after the other in a buffer of A5.
@@ -77,89 +80,89 @@ fn fields_of(x: u64) -> [u8; 20] {
 }
 
 // They are read back, and then the two bytes past them, and two of which the second lies past the end.
-pub fn show_fields(x: u64) {
+pub fn show_fields(output: &mut impl Write, x: u64) -> io::Result<()> {
     let out = fields_of(x);
-    say(b"fields of ");
-    hex(x, 16);
-    say(b" give ");
-    write_fields(out);
-    write_past(out);
-    line();
+    say(output, b"fields of ")?;
+    hex(output, x, 16)?;
+    say(output, b" give ")?;
+    write_fields(output, out)?;
+    write_past(output, out)?;
+    line(output)
 }
 
-fn write_fields(out: [u8; 20]) {
-    hex(numbers::byte_at(&out, 0) as u64, 2);
-    say(b" ");
-    hex(numbers::u16_at(&out, 1) as u64, 4);
-    say(b" ");
-    hex(numbers::u24_at(&out, 3) as u64, 6);
-    say(b" ");
-    hex(numbers::u32_at(&out, 6) as u64, 8);
-    say(b" ");
-    hex(numbers::u64_at(&out, 10), 16);
+fn write_fields(output: &mut impl Write, out: [u8; 20]) -> io::Result<()> {
+    hex(output, numbers::byte_at(&out, 0) as u64, 2)?;
+    say(output, b" ")?;
+    hex(output, numbers::u16_at(&out, 1) as u64, 4)?;
+    say(output, b" ")?;
+    hex(output, numbers::u24_at(&out, 3) as u64, 6)?;
+    say(output, b" ")?;
+    hex(output, numbers::u32_at(&out, 6) as u64, 8)?;
+    say(output, b" ")?;
+    hex(output, numbers::u64_at(&out, 10), 16)
 }
 
-fn write_past(out: [u8; 20]) {
-    say(b", past them ");
-    hex(numbers::u16_at(&out, 18) as u64, 4);
-    say(b", past the end ");
-    hex(numbers::u16_at(&out, 19) as u64, 4);
+fn write_past(output: &mut impl Write, out: [u8; 20]) -> io::Result<()> {
+    say(output, b", past them ")?;
+    hex(output, numbers::u16_at(&out, 18) as u64, 4)?;
+    say(output, b", past the end ")?;
+    hex(output, numbers::u16_at(&out, 19) as u64, 4)
 }
 
-fn write_command(name: &[u8]) {
+fn write_command(output: &mut impl Write, name: &[u8]) -> io::Result<()> {
     match text::command_of(name) {
-        Command::Connect => say(b"connect"),
-        Command::CreateStream => say(b"createStream"),
-        Command::CloseStream => say(b"closeStream"),
-        Command::DeleteStream => say(b"deleteStream"),
-        Command::Publish => say(b"publish"),
-        Command::Play => say(b"play"),
-        Command::Other => say(b"none"),
+        Command::Connect => say(output, b"connect"),
+        Command::CreateStream => say(output, b"createStream"),
+        Command::CloseStream => say(output, b"closeStream"),
+        Command::DeleteStream => say(output, b"deleteStream"),
+        Command::Publish => say(output, b"publish"),
+        Command::Play => say(output, b"play"),
+        Command::Other => say(output, b"none"),
     }
 }
 
-pub fn show_command(name: &[u8]) {
-    say(b"command \"");
-    say(name);
-    say(b"\" is ");
-    write_command(name);
-    line();
+pub fn show_command(output: &mut impl Write, name: &[u8]) -> io::Result<()> {
+    say(output, b"command \"")?;
+    say(output, name)?;
+    say(output, b"\" is ")?;
+    write_command(output, name)?;
+    line(output)
 }
 
-fn write_mode(mode: PublishMode) {
+fn write_mode(output: &mut impl Write, mode: PublishMode) -> io::Result<()> {
     match mode {
-        PublishMode::Live => say(b"live"),
-        PublishMode::Append => say(b"append"),
-        PublishMode::Record => say(b"record"),
+        PublishMode::Live => say(output, b"live"),
+        PublishMode::Append => say(output, b"append"),
+        PublishMode::Record => say(output, b"record"),
     }
 }
 
-pub fn show_mode(word: &[u8]) {
-    say(b"mode \"");
-    say(word);
-    say(b"\" is ");
+pub fn show_mode(output: &mut impl Write, word: &[u8]) -> io::Result<()> {
+    say(output, b"mode \"")?;
+    say(output, word)?;
+    say(output, b"\" is ")?;
     match text::mode_of(word) {
-        ModeWord::Mode(mode) => write_mode(mode),
-        ModeWord::Other => say(b"none"),
+        ModeWord::Mode(mode) => write_mode(output, mode)?,
+        ModeWord::Other => say(output, b"none")?,
     }
-    line();
+    line(output)
 }
 
-pub fn show_name(part: &[u8]) {
+pub fn show_name(output: &mut impl Write, part: &[u8]) -> io::Result<()> {
     let read = text::read_name(part);
     let name = read.name;
     let bytes = name.bytes;
-    say(b"a name of ");
-    number(part.len() as u64);
+    say(output, b"a name of ")?;
+    number(output, part.len() as u64)?;
     if read.fits {
-        say(b" bytes fits and is \"");
-        say(text::text_of(&bytes, name.len));
-        say(b"\"");
+        say(output, b" bytes fits and is \"")?;
+        say(output, text::text_of(&bytes, name.len))?;
+        say(output, b"\"")?;
     } else {
-        say(b" bytes is refused");
+        say(output, b" bytes is refused")?;
     }
     if text::name_is(name, part) {
-        say(b", its own text");
+        say(output, b", its own text")?;
     }
-    line();
+    line(output)
 }

@@ -1,35 +1,37 @@
 // One double: read, converted every way, and written as a line.
 use crate::digits::read_bytes;
 use crate::show::{hex, line, number, say, write_duration, write_start};
+use std::io;
+use std::io::{Read, Write};
 
 // bits, the single, the u32, the single's double, the same by way of an f32, the u32's double, start and duration.
-fn write_vector(bits: u64) {
+fn write_vector(output: &mut impl Write, bits: u64) -> io::Result<()> {
     let single = numbers::single_of(bits);
     let whole = numbers::u32_of(bits);
-    hex(bits, 16);
-    say(b" ");
-    hex(single as u64, 8);
-    say(b" ");
-    number(whole as u64);
-    say(b" ");
-    hex(numbers::double_of_single(single), 16);
-    say(b" ");
-    hex(numbers::bits_of_f32(numbers::f32_of(bits)), 16);
-    say(b" ");
-    hex(numbers::double_of_u32(whole), 16);
-    say(b" ");
-    write_start(bits);
-    say(b" ");
-    write_duration(bits);
-    line();
+    hex(output, bits, 16)?;
+    say(output, b" ")?;
+    hex(output, single as u64, 8)?;
+    say(output, b" ")?;
+    number(output, whole as u64)?;
+    say(output, b" ")?;
+    hex(output, numbers::double_of_single(single), 16)?;
+    say(output, b" ")?;
+    hex(output, numbers::bits_of_f32(numbers::f32_of(bits)), 16)?;
+    say(output, b" ")?;
+    hex(output, numbers::double_of_u32(whole), 16)?;
+    say(output, b" ")?;
+    write_start(output, bits)?;
+    say(output, b" ")?;
+    write_duration(output, bits)?;
+    line(output)
 }
 
 // Whether there was a whole one.
-pub fn run_double() -> bool {
+pub fn run_double(input: &mut impl Read, output: &mut impl Write) -> io::Result<bool> {
     let mut bytes = [0u8; 8];
-    if read_bytes(&mut bytes, 8) {
-        write_vector(numbers::u64_at(&bytes, 0));
-        return true;
+    if read_bytes(input, &mut bytes, 8)? {
+        write_vector(output, numbers::u64_at(&bytes, 0))?;
+        return Ok(true);
     }
-    false
+    Ok(false)
 }

@@ -1,63 +1,52 @@
 // What the program writes.
 use answers::Sent;
-use libc::STDOUT_FILENO;
+use std::io;
+use std::io::Write;
 
-fn say(words: &[u8]) {
-    io::write_all(STDOUT_FILENO, words);
+fn say(output: &mut impl Write, words: &[u8]) -> io::Result<()> {
+    output.write_all(words)
 }
 
-fn number(x: u64) {
-    io::print_decimal(STDOUT_FILENO, x);
+fn number(output: &mut impl Write, x: u64) -> io::Result<()> {
+    write!(output, "{x}")
 }
 
 // The first n bytes.
-fn bytes(out: &[u8], n: usize) {
-    let mut i = 0;
-    while i < out.len() {
-        if i < n {
-            io::print_hex(STDOUT_FILENO, numbers::byte_at(out, i) as u64, 2);
-        }
-        i += 1;
+fn bytes(output: &mut impl Write, out: &[u8], n: usize) -> io::Result<()> {
+    for b in out.iter().take(n) {
+        write!(output, "{b:02x}")?;
     }
+    Ok(())
 }
 
 // Whether every byte from n on is still A5.
 fn kept(out: &[u8], n: usize) -> bool {
-    let mut i = 0;
-    while i < out.len() {
-        if n <= i {
-            if out[i] != 0xA5 {
-                return false;
-            }
-        }
-        i += 1;
-    }
-    true
+    out.iter().skip(n).all(|b| *b == 0xA5)
 }
 
-pub fn show(name: &[u8], sent: Sent, out: &[u8]) {
-    say(name);
+pub fn show(output: &mut impl Write, name: &[u8], sent: Sent, out: &[u8]) -> io::Result<()> {
+    say(output, name)?;
     if sent.fits {
-        say(b" ");
-        number(sent.count as u64);
-        say(b" ");
-        bytes(out, sent.count);
+        say(output, b" ")?;
+        number(output, sent.count as u64)?;
+        say(output, b" ")?;
+        bytes(output, out, sent.count)?;
     } else {
-        say(b" none");
+        say(output, b" none")?;
     }
     if kept(out, sent.count) {
-        say(b"\n");
+        say(output, b"\n")
     } else {
-        say(b" spilt\n");
+        say(output, b" spilt\n")
     }
 }
 
-pub fn time(start: u64, clock: u64) {
-    say(b"time ");
-    number(start);
-    say(b" ");
-    number(clock);
-    say(b" ");
-    number(record::time_of(start, clock) as u64);
-    say(b"\n");
+pub fn time(output: &mut impl Write, start: u64, clock: u64) -> io::Result<()> {
+    say(output, b"time ")?;
+    number(output, start)?;
+    say(output, b" ")?;
+    number(output, clock)?;
+    say(output, b" ")?;
+    number(output, record::time_of(start, clock) as u64)?;
+    say(output, b"\n")
 }
