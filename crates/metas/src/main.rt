@@ -58,6 +58,8 @@ fn run_all(input: &mut impl Read, output: &mut impl Write) -> io::Result<()> {
 
 fn main(rt: HostRuntime) -> io::Result<()> {
     let mut output = BufWriter::new(rt.alloc(), rt.stdout())?;
-    run_all(&mut rt.stdin(), &mut output)?;
-    output.flush()
+    // What was written before a read failed goes out too.
+    let played = run_all(&mut rt.stdin(), &mut output);
+    output.flush()?;
+    played
 }

@@ -85,6 +85,8 @@ fn main(rt: HostRuntime) -> io::Result<()> {
     word_pins(&mut output)?;
     name_pins(&mut output)?;
     say(&mut output, b"vectors\n")?;
-    run_all(&mut rt.stdin(), &mut output)?;
-    output.flush()
+    // What was written before a read failed goes out too.
+    let played = run_all(&mut rt.stdin(), &mut output);
+    output.flush()?;
+    played
 }

@@ -1,7 +1,9 @@
 // The part of the input that is at hand: `from` is where the next entry begins, `to` the end of what was read.
 ghost use Rattle.std.specs.Prelude.{◌+◌, ◌≤◌, length};
 
-use libc::STDIN_FILENO;
+use input::read_full;
+use std::io;
+use std::io::Read;
 
 #[derive(Clone, Copy)]
 pub struct Window {
@@ -40,12 +42,7 @@ pub fn move_on(w: Window, n: usize) -> Window {
 fn copy_down(bytes: &mut [u8], from: usize, n: usize)
     requires { from + n ≤ length bytes.old }
 {
-    let mut i = 0;
-    while i < n {
-        let x = bytes[from + i];
-        bytes[i] = x;
-        i += 1;
-    }
+    bytes.copy_within(from..from + n, 0);
 }
 
 // The n bytes from `from` on move to the front.
@@ -58,31 +55,31 @@ fn move_up(bytes: &mut [u8], from: usize, n: usize) {
 }
 
 // How many bytes more were read, behind the first n.
-fn read_more(bytes: &mut [u8], n: usize) -> usize {
+fn read_more(input: &mut impl Read, bytes: &mut [u8], n: usize) -> io::Result<usize> {
     if bytes.len() < n {
-        return 0;
+        return Ok(0);
     }
-    io::read_full(STDIN_FILENO, &mut bytes[n..])
+    read_full(input, &mut bytes[n..])
 }
 
-fn refilled(bytes: &mut [u8; 262144], w: Window) -> Window {
+fn refilled(input: &mut impl Read, bytes: &mut [u8; 262144], w: Window) -> io::Result<Window> {
     let n = in_window(w);
     move_up(bytes, w.from, n);
-    let more = read_more(bytes, n);
-    Window {
+    let more = read_more(input, bytes, n)?;
+    Ok(Window {
         from: 0,
-        to: std::num::wrapping_add_usize(n, more),
+        to: n.wrapping_add(more),
         ended: more == 0,
-    }
+    })
 }
 
 // No entry is longer than 131,091 bytes: a reject with its two texts.
-pub fn refill(bytes: &mut [u8; 262144], w: Window) -> Window {
+pub fn refill(input: &mut impl Read, bytes: &mut [u8; 262144], w: Window) -> io::Result<Window> {
     if w.ended {
-        return w;
+        return Ok(w);
     }
     if 131091 <= in_window(w) {
-        return w;
+        return Ok(w);
     }
-    refilled(bytes, w)
+    refilled(input, bytes, w)
 }
