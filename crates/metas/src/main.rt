@@ -11,7 +11,7 @@ use digits::read_bytes;
 use input::read_full;
 use show::say;
 use std::io;
-use std::io::{BufWriter, Read, Write};
+use std::io::{Read, Write};
 
 fn write_line(output: &mut impl Write, body: &[u8]) -> io::Result<()> {
     let read = metadata::read_metadata(body, 0);
@@ -57,9 +57,6 @@ fn run_all(input: &mut impl Read, output: &mut impl Write) -> io::Result<()> {
 }
 
 fn main(rt: HostRuntime) -> io::Result<()> {
-    let mut output = BufWriter::new(rt.alloc(), rt.stdout())?;
-    // What was written before a read failed goes out too.
-    let played = run_all(&mut rt.stdin(), &mut output);
-    output.flush()?;
-    played
+    let mut output = rt.stdout();
+    run_all(&mut rt.stdin(), &mut output)
 }

@@ -13,7 +13,7 @@ use show::{
     show_start, show_u32,
 };
 use std::io;
-use std::io::{BufWriter, Read, Write};
+use std::io::{Read, Write};
 
 fn number_pins(output: &mut impl Write) -> io::Result<()> {
     show_u32(output, b"4294967296.0 as u32 gives ", 0x41F0000000000000)?;
@@ -78,15 +78,12 @@ fn run_all(input: &mut impl Read, output: &mut impl Write) -> io::Result<()> {
 }
 
 fn main(rt: HostRuntime) -> io::Result<()> {
-    let mut output = BufWriter::new(rt.alloc(), rt.stdout())?;
+    let mut output = rt.stdout();
     number_pins(&mut output)?;
     show_fields(&mut output, 0x0102030405060708)?;
     show_fields(&mut output, 0xFFFEFDFCFBFAF9F8)?;
     word_pins(&mut output)?;
     name_pins(&mut output)?;
     say(&mut output, b"vectors\n")?;
-    // What was written before a read failed goes out too.
-    let played = run_all(&mut rt.stdin(), &mut output);
-    output.flush()?;
-    played
+    run_all(&mut rt.stdin(), &mut output)
 }

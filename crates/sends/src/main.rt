@@ -6,7 +6,7 @@ mod show;
 
 use show::show;
 use std::io;
-use std::io::{BufWriter, Write};
+use std::io::Write;
 use text::{Name, StreamId};
 
 // The longest name of one letter.
@@ -408,7 +408,7 @@ fn times(output: &mut impl Write) -> io::Result<()> {
 }
 
 fn main(rt: HostRuntime) -> io::Result<()> {
-    let mut output = BufWriter::new(rt.alloc(), rt.stdout())?;
+    let mut output = rt.stdout();
     starts(&mut output)?;
     creations(&mut output)?;
     connects(&mut output)?;
@@ -417,6 +417,5 @@ fn main(rt: HostRuntime) -> io::Result<()> {
     errors(&mut output)?;
     medias(&mut output)?;
     pings(&mut output)?;
-    times(&mut output)?;
-    output.flush()
+    times(&mut output)
 }

@@ -6,7 +6,7 @@ mod window;
 use replay::next_entry;
 use session::Session;
 use std::io;
-use std::io::{BufWriter, Read, Write};
+use std::io::{Read, Write};
 use text::{part_of, text_of};
 use window::{Window, in_window, move_on, new_window, refill};
 
@@ -100,16 +100,13 @@ fn main(rt: HostRuntime) -> io::Result<()> {
         entry: 1,
         session,
     };
-    let mut output = BufWriter::new(rt.alloc(), rt.stdout())?;
-    // What was written before a read failed goes out too.
-    let played = run_all(
+    let mut output = rt.stdout();
+    run_all(
         &mut rt.stdin(),
         &mut output,
         &mut bytes,
         &mut space,
         &mut line,
         first,
-    );
-    output.flush()?;
-    played
+    )
 }
