@@ -12,7 +12,7 @@
  *     What is only read may overlap with what is only read.
  *   - A slice is two words: a pointer, and a count of bytes. The pointer is not NULL, also where the count is 0.
  *   - Nobody else writes what is lent while the call runs. Calls on different sessions may run at the same time.
- *   - There is stack enough. When last counted, a call took up to 12 KB, a start 2 KB.
+ *   - There is stack enough. When last counted, a call took up to 14 KB, a start 4 KB.
  * All else is the library's business: no number and no byte that is handed in is wrong, it is answered or refused.
  *
  * The chungvator_session_.. functions at the end are those that a host calls. The others are what the library exports.
