@@ -2,9 +2,10 @@
 use mathlib.Core.Path.{◌≡◌, sym, ap, ◌∙◌}
 use Prim.Native.Nat.{ℕ, ◌+◌, ◌≤◌, ◌<◌}
 use native.Mathlib.Omega.{arith}
+use Rattle.std.specs.Prelude.{Option, Some, None}
 use mathlib.Core.Bool.{Bool, true, false}
 use mathlib.Core.List.{List, [], ◌++◌, append-nil, append_assoc}
-use lib.ListN.{length, take, length-append, length-take}
+use lib.ListN.{length, length-append}
 use borrow.Author.Tests.{lt-ltb, le-ltb}
 use Rattle.numbers.specs.Choose.{pick}
 use Rattle.numbers.specs.Fields.{bytes_of, front, over}
@@ -15,22 +16,21 @@ use Rattle.amf0.specs.Grammar.{boolean, done, none, object, property, string, va
 use Rattle.amf0.specs.Writing.{encode_of, room}
 use Rattle.amf0.proofs.WriteTheorems.{length_encode_of}
 use Rattle.record.specs.Records.{bw_done, chunk_size_record, command, connect_accepted, connected_row, data_record, data_started, dropping, error_record, four_records, media, number_row, peer_bandwidth_record, play_accepted, play_data, play_finished, play_first, publish_accepted, record_of, sample_access, start_records, status_record, status_row, stream_created, user_control, window_size_record}
-use Rattle.answers.specs.Sending.{all_sent, no_room, sent}
+use Rattle.answers.specs.Sending.{sent}
 use Rattle.record.specs.Texts.{completed_for, data_start, level_error, level_status, play_complete, play_reset, play_start, playing_on, publish_start, publishing_on, reset_stream, the_bWDone, the_error, the_result, the_sample_access, the_status}
-use Rattle.answers.specs.declared.sent.Sent.{Sent}
 use Rattle.record.proofs.RecordLaws.{length_record, two_lengths}
 use Rattle.record.proofs.StatusLaws.{length_number, length_status}
 use Rattle.record.proofs.ConnectLaws.{length_connected}
 
-pub sent_no : (records out : List ℕ) (n : ℕ) (r : Sent) → r ≡ no_room → length records ≡ n → length out < n → ◌≡◌ {A = Sent × List ℕ} (r, out) (sent records out)
+pub sent_no : (records out : List ℕ) (n : ℕ) → length records ≡ n → length out < n → ◌≡◌ {A = Option ℕ × List ℕ} (None, out) (sent records out)
 unfolding sent
-sent_no records out n r e l h = let g : length out < length records = omega arith in ap (λ (x : Sent). (x, out)) e ∙ simp (lt-ltb (length out) (length records) g)
+sent_no records out n l h = let g : length out < length records = omega arith in simp (lt-ltb (length out) (length records) g)
 
-pub sent_yes : (records out after : List ℕ) (n : ℕ) (r : Sent) → after ≡ front records out → r ≡ all_sent n → length records ≡ n → n ≤ length out → ◌≡◌ {A = Sent × List ℕ} (r, after) (sent records out)
+pub sent_yes : (records out after : List ℕ) (n : ℕ) → after ≡ front records out → length records ≡ n → n ≤ length out → ◌≡◌ {A = Option ℕ × List ℕ} (Some n, after) (sent records out)
 unfolding sent
-sent_yes records out after n r f e l h =
+sent_yes records out after n f l h =
     let g : length records ≤ length out = omega arith in
-    ap (λ (x : Sent). (x, after)) (e ∙ ap all_sent (sym l)) ∙ ap (λ (y : List ℕ). (all_sent (length records), y)) f ∙ simp (le-ltb (length out) (length records) g)
+    ap (λ (x : ℕ). (Some x, after)) (sym l) ∙ ap (λ (y : List ℕ). (Some (length records), y)) f ∙ simp (le-ltb (length out) (length records) g)
 
 -- ---- lengths
 pub length_control : (event x time stream flags : ℕ) → length (user_control event x time stream flags) ≡ 19
@@ -134,12 +134,8 @@ pub length_media : (kind time stream : ℕ) (d : Bool) (body : List ℕ) → len
 unfolding media
 length_media kind time stream d body = length_record kind time stream (dropping d) body
 
--- ---- a name's text
-pub name_short : (bytes t : List ℕ) (n : ℕ) → t ≡ take n bytes → length bytes ≡ 128 → length t ≤ 128
-name_short bytes t n e l = omega (arith, ap length e, length-take n bytes)
-
 -- what is sent for a text is sent for what the text is
-pub sent_of : (records : List ℕ → List ℕ) (t u out : List ℕ) (x : Sent × List ℕ) → x ≡ sent (records t) out → t ≡ u → x ≡ sent (records u) out
+pub sent_of : (records : List ℕ → List ℕ) (t u out : List ℕ) (x : Option ℕ × List ℕ) → x ≡ sent (records t) out → t ≡ u → x ≡ sent (records u) out
 sent_of records t u out x h e = h ∙ ap (λ (y : List ℕ). sent (records y) out) e
 
 -- ---- what the code wrote is what the answer sends

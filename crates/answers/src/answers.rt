@@ -5,13 +5,12 @@ ghost use Rattle.text.specs.Names.{text_of};
 ghost use Rattle.record.specs.Records.{connect_accepted, dropping, error_record, four_records, media, ping_request, ping_response, play_accepted, play_data, play_finished, play_first, publish_accepted, start_records, stream_created};
 ghost use Rattle.answers.specs.Sending.{sent};
 
-use crate::sent::{Sent, all_sent, no_room};
 use numbers::double_of_u32;
 use record::{
     write_bandwidth, write_body, write_connected, write_data_started, write_event,
     write_number_answer, write_sample_access, write_size, write_status,
 };
-use text::{Name, StreamId, room_of, text_of};
+use text::{Name, StreamId};
 
 fn write_four(out: &mut [u8], chunk: u32, window: u32, bandwidth: u32)
     requires { 71 ≤ length out.old }
@@ -30,34 +29,39 @@ pub fn start_records(
     window: u32,
     bandwidth: u32,
     on_bw_done: bool,
-) -> Sent
+) -> Option<usize>
     ensures { (result, out.new) ≡ sent (start_records chunk window bandwidth on_bw_done) out.old }
 {
     if on_bw_done {
         if out.len() < 114 {
-            return no_room();
+            return None;
         }
         write_four(out, chunk, window, bandwidth);
         write_number_answer(&mut out[71..], b"onBWDone", 0, 0x40C0000000000000, 0, 1);
-        return all_sent(114);
+        return Some(114);
     }
     if out.len() < 71 {
-        return no_room();
+        return None;
     }
     write_four(out, chunk, window, bandwidth);
-    all_sent(71)
+    Some(71)
 }
 
 // The answer to createStream.
-pub fn stream_created(out: &mut [u8], transaction: u64, number: StreamId, time: u32) -> Sent
+pub fn stream_created(
+    out: &mut [u8],
+    transaction: u64,
+    number: StreamId,
+    time: u32,
+) -> Option<usize>
     ensures { (result, out.new) ≡ sent (stream_created transaction number.0 time) out.old }
 {
     if out.len() < 42 {
-        return no_room();
+        return None;
     }
     let bits = double_of_u32(number.0);
     write_number_answer(out, b"_result", transaction, bits, time, 0);
-    all_sent(42)
+    Some(42)
 }
 
 // An error, of a command or of a rejected request.
@@ -68,13 +72,13 @@ pub fn error_record(
     description: &[u8],
     time: u32,
     stream: StreamId,
-) -> Sent
+) -> Option<usize>
     requires { (length code.now ≤ 256) × (length description.now ≤ 256) }
     ensures { (result, out.new) ≡ sent (error_record transaction code.now description.now time stream.0) out.old }
 {
     let total = 76 + code.len() + description.len();
     if out.len() < total {
-        return no_room();
+        return None;
     }
     write_status(
         out,
@@ -87,16 +91,17 @@ pub fn error_record(
         time,
         stream,
     );
-    all_sent(total)
+    Some(total)
 }
 
-fn publish_accepted_on(out: &mut [u8], key: &[u8], time: u32, stream: StreamId) -> Sent
-    requires { length key.now ≤ 128 }
-    ensures { (result, out.new) ≡ sent (publish_accepted key.now time stream.0) out.old }
+// Accepted publish: StreamBegin, onStatus.
+pub fn publish_accepted(out: &mut [u8], key: Name, time: u32, stream: StreamId) -> Option<usize>
+    ensures { (result, out.new) ≡ sent (publish_accepted (text_of key) time stream.0) out.old }
 {
+    let key = key.text();
     let total = 167 + key.len();
     if out.len() < total {
-        return no_room();
+        return None;
     }
     write_event(out, 0, stream.0, time, stream, 0);
     write_status(
@@ -110,17 +115,7 @@ fn publish_accepted_on(out: &mut [u8], key: &[u8], time: u32, stream: StreamId) 
         time,
         stream,
     );
-    all_sent(total)
-}
-
-// Accepted publish: StreamBegin, onStatus.
-pub fn publish_accepted(out: &mut [u8], key: Name, time: u32, stream: StreamId) -> Sent
-    ensures { (result, out.new) ≡ sent (publish_accepted (text_of key) time stream.0) out.old }
-{
-    let bytes = key.bytes;
-    let len = key.len;
-    let _room = room_of(bytes);
-    publish_accepted_on(out, text_of(&bytes, len), time, stream)
+    Some(total)
 }
 
 // The first three records of an accepted play, and the other two.
@@ -161,37 +156,29 @@ fn write_play_data(out: &mut [u8], time: u32, stream: StreamId)
     write_data_started(&mut out[37..], time, stream);
 }
 
-fn play_accepted_on(out: &mut [u8], key: &[u8], time: u32, stream: StreamId) -> Sent
-    requires { length key.now ≤ 128 }
-    ensures { (result, out.new) ≡ sent (play_accepted key.now time stream.0) out.old }
+// Accepted play: Reset, StreamBegin, Start, |RtmpSampleAccess, data onStatus.
+pub fn play_accepted(out: &mut [u8], key: Name, time: u32, stream: StreamId) -> Option<usize>
+    ensures { (result, out.new) ≡ sent (play_accepted (text_of key) time stream.0) out.old }
 {
+    let key = key.text();
     let total = 367 + key.len();
     let p = 273 + key.len();
     if out.len() < total {
-        return no_room();
+        return None;
     }
     write_play(out, key, time, stream);
     write_play_data(&mut out[p..], time, stream);
-    all_sent(total)
+    Some(total)
 }
 
-// Accepted play: Reset, StreamBegin, Start, |RtmpSampleAccess, data onStatus.
-pub fn play_accepted(out: &mut [u8], key: Name, time: u32, stream: StreamId) -> Sent
-    ensures { (result, out.new) ≡ sent (play_accepted (text_of key) time stream.0) out.old }
+// A finished play.
+pub fn play_finished(out: &mut [u8], key: Name, time: u32, stream: StreamId) -> Option<usize>
+    ensures { (result, out.new) ≡ sent (play_finished (text_of key) time stream.0) out.old }
 {
-    let bytes = key.bytes;
-    let len = key.len;
-    let _room = room_of(bytes);
-    play_accepted_on(out, text_of(&bytes, len), time, stream)
-}
-
-fn play_finished_on(out: &mut [u8], key: &[u8], time: u32, stream: StreamId) -> Sent
-    requires { length key.now ≤ 128 }
-    ensures { (result, out.new) ≡ sent (play_finished key.now time stream.0) out.old }
-{
+    let key = key.text();
     let total = 135 + key.len();
     if out.len() < total {
-        return no_room();
+        return None;
     }
     write_status(
         out,
@@ -204,36 +191,7 @@ fn play_finished_on(out: &mut [u8], key: &[u8], time: u32, stream: StreamId) -> 
         time,
         stream,
     );
-    all_sent(total)
-}
-
-// A finished play.
-pub fn play_finished(out: &mut [u8], key: Name, time: u32, stream: StreamId) -> Sent
-    ensures { (result, out.new) ≡ sent (play_finished (text_of key) time stream.0) out.old }
-{
-    let bytes = key.bytes;
-    let len = key.len;
-    let _room = room_of(bytes);
-    play_finished_on(out, text_of(&bytes, len), time, stream)
-}
-
-fn connect_accepted_on(
-    out: &mut [u8],
-    transaction: u64,
-    version: &[u8],
-    app: &[u8],
-    encoding: u64,
-    time: u32,
-) -> Sent
-    requires { (length version.now ≤ 128) × (length app.now ≤ 128) }
-    ensures { (result, out.new) ≡ sent (connect_accepted transaction version.now app.now encoding time) out.old }
-{
-    let total = 200 + version.len() + app.len();
-    if out.len() < total {
-        return no_room();
-    }
-    write_connected(out, transaction, version, app, encoding, time);
-    all_sent(total)
+    Some(total)
 }
 
 // Accepted connect.
@@ -244,23 +202,17 @@ pub fn connect_accepted(
     app: Name,
     encoding: u64,
     time: u32,
-) -> Sent
+) -> Option<usize>
     ensures { (result, out.new) ≡ sent (connect_accepted transaction (text_of version) (text_of app) encoding time) out.old }
 {
-    let bytes = version.bytes;
-    let len = version.len;
-    let _room = room_of(bytes);
-    let app_bytes = app.bytes;
-    let app_len = app.len;
-    let _app_room = room_of(app_bytes);
-    connect_accepted_on(
-        out,
-        transaction,
-        text_of(&bytes, len),
-        text_of(&app_bytes, app_len),
-        encoding,
-        time,
-    )
+    let version = version.text();
+    let app = app.text();
+    let total = 200 + version.len() + app.len();
+    if out.len() < total {
+        return None;
+    }
+    write_connected(out, transaction, version, app, encoding, time);
+    Some(total)
 }
 
 // An audio or a video record, type 8 or 9, with its body copied.
@@ -271,45 +223,42 @@ pub fn media_record(
     stream: StreamId,
     droppable: bool,
     body: &[u8],
-) -> Sent
+) -> Option<usize>
     ensures { (result, out.new) ≡ sent (media kind time stream.0 droppable body.now) out.old }
 {
     if out.len() < 13 {
-        return no_room();
+        return None;
     }
     if out.len() - 13 < body.len() {
-        return no_room();
+        return None;
     }
     let flags = dropping_of(droppable);
     write_body(out, kind, body, time, stream, flags);
-    all_sent(13 + body.len())
+    Some(13 + body.len())
 }
 
 fn dropping_of(droppable: bool) -> u8
     ensures { result ≡ dropping droppable }
 {
-    if droppable {
-        return 2;
-    }
-    0
+    if droppable { 2 } else { 0 }
 }
 
-pub fn ping_request(out: &mut [u8], time: u32) -> Sent
+pub fn ping_request(out: &mut [u8], time: u32) -> Option<usize>
     ensures { (result, out.new) ≡ sent (ping_request time) out.old }
 {
     if out.len() < 19 {
-        return no_room();
+        return None;
     }
     write_event(out, 6, time, time, StreamId(0), 0);
-    all_sent(19)
+    Some(19)
 }
 
-pub fn ping_response(out: &mut [u8], x: u32, time: u32) -> Sent
+pub fn ping_response(out: &mut [u8], x: u32, time: u32) -> Option<usize>
     ensures { (result, out.new) ≡ sent (ping_response x time) out.old }
 {
     if out.len() < 19 {
-        return no_room();
+        return None;
     }
     write_event(out, 7, x, time, StreamId(0), 0);
-    all_sent(19)
+    Some(19)
 }

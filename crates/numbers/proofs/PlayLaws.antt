@@ -6,7 +6,7 @@ use lib.Ieee.{Float, binary64, of_bits, eq, le}
 use Rattle.numbers.specs.Whole.{u32_of}
 use Rattle.numbers.specs.Play.{duration_of, minus_one, minus_two, none, start_of}
 use Rattle.numbers.specs.declared.play.PlayStartValue.TheVariants.{LiveOrRecorded, LiveOnly, StartTimeInSeconds}
-use Rattle.numbers.specs.declared.play.PlayDuration.TheVariants.{Unlimited, Seconds}
+use Rattle.std.specs.Prelude.{Some, None}
 
 module _ (b n : ℕ) (x : Float) (e : x ≡ of_bits binary64 b) where
   pub start_two : eq x minus_two ≡ true → LiveOrRecorded ≡ start_of b
@@ -26,10 +26,10 @@ module _ (b n : ℕ) (x : Float) (e : x ≡ of_bits binary64 b) where
     unfolding start_of
     start_other h1 h = simp (sym e, h2, h1, h)
 
-  pub duration_seconds : le none x ≡ true → n ≡ u32_of b → Seconds n ≡ duration_of b
+  pub duration_seconds : le none x ≡ true → n ≡ u32_of b → Some n ≡ duration_of b
   unfolding duration_of
   duration_seconds h u = simp (u, sym e, h)
 
-  pub duration_none : le none x ≡ false → Unlimited ≡ duration_of b
+  pub duration_none : le none x ≡ false → None ≡ duration_of b
   unfolding duration_of
   duration_none h = simp (sym e, h)

@@ -2,12 +2,12 @@
 use mathlib.Core.Path.{◌≡◌, refl, sym, ap, ◌∙◌}
 use mathlib.Core.Logic.{inl, inr}
 use Prim.Native.Nat.{ℕ, ◌+◌, ◌-◌, ◌*◌, ◌/◌, ◌%◌, ◌^◌, ◌≤◌, ◌<◌, min}
-use native.Mathlib.Nat.{le_trans, le_of_eq, lt_of_lt_of_le, eq-or-lt_of_le, mul_assoc, mul-le-mul_right, div-eq_of_lt, le-div_iff_mul-le, div-lt_iff_lt-mul, div-one}
+use native.Mathlib.Nat.{le_trans, le_of_eq, lt_of_lt_of_le, eq-or-lt_of_le, mul_assoc, mul-le-mul_right, div-eq_of_lt, le-div_iff_mul-le, div-lt_iff_lt-mul}
 use native.Mathlib.Omega.{arith}
 use mathlib.Core.Bool.{Bool, true, false, not, ◌&&◌, ◌||◌, cond}
 use lib.Dec.{T, leb, ltb, eqb, le→leb}
 use lib.IntN.{pos}
-use lib.Pow.{pow-add, pow_pos, pow_mono, shl_lt, shr_lt, shr-shr}
+use lib.Pow.{pow-add, pow_pos, pow_mono, shl_lt, shr_lt}
 use lib.Ieee.{Float, nan, inf, fin, binary64, up, down, lt, eq, le, is_nan, of_bits, of_int, to_unsigned, in_unsigned, in_float}
 use lib.Ieee.Back.{unsigned_back}
 use lib.Ieee.Bits.{of_bits-to_bits, to_bits-lt}
@@ -137,13 +137,6 @@ module _ (b : ℕ) where
       | inr l ↦ rw (signed l, s)
     ]
   ]
-
--- ---- halving
-pub half_step : (a i : ℕ) → 0 < i → a / 2 / 2 ^ (i - 1) ≡ a / 2 ^ i
-half_step a i h = let e : 1 + (i - 1) ≡ i = omega arith in shr-shr a 1 (i - 1) ∙ ap (λ (x : ℕ). a / 2 ^ x) e
-
-pub half_end : (a i : ℕ) → i ≤ 0 → a ≡ a / 2 ^ i
-half_end a i h = let e : i ≡ 0 = omega arith in sym (ap (λ (x : ℕ). a / 2 ^ x) e ∙ div-one a)
 
 -- ---- a whole number is no NaN
 in_no_nan : (x : Float) → T (in_unsigned binary64 32 x) → T (not (is_nan x))

@@ -1,5 +1,5 @@
 -- The pins of the bench plate that are about numbers, computed: one table and one claim.
-use Rattle.std.specs.Prelude.{◌≡◌, refl, List, [], ◌∷◌, ℕ}
+use Rattle.std.specs.Prelude.{◌≡◌, refl, List, [], ◌∷◌, ℕ, Option, Some, None}
 use Rattle.std.specs.Float.{binary32, binary64}
 use Rattle.std.specs.Float.Ieee.{of_bits, to_bits, round, eq, lt, le, is_nan}
 use Rattle.numbers.specs.Whole.{u32_of, whole_of}
@@ -7,12 +7,10 @@ use Rattle.numbers.specs.Single.{convert, recode, single_of}
 use Rattle.numbers.specs.Play.{duration_of, start_of}
 use Rattle.numbers.specs.declared.play.PlayStartValue.{PlayStartValue}
 use Rattle.numbers.specs.declared.play.PlayStartValue.TheVariants.{LiveOrRecorded, LiveOnly, StartTimeInSeconds}
-use Rattle.numbers.specs.declared.play.PlayDuration.{PlayDuration}
-use Rattle.numbers.specs.declared.play.PlayDuration.TheVariants.{Unlimited, Seconds}
 
 pub data Pin : Type 0 where
   start : PlayStartValue → Pin
-  duration : PlayDuration → Pin
+  duration : Option ℕ → Pin
   number : ℕ → Pin
 
 -- a single as the whole number that it is
@@ -41,7 +39,7 @@ pins =
 pub pins_are : pins
     ≡ start (StartTimeInSeconds 0)
     ∷ start LiveOrRecorded
-    ∷ duration Unlimited
+    ∷ duration None
     ∷ number 4294967295
     ∷ number 0
     ∷ number 16777216
@@ -51,7 +49,7 @@ pub pins_are : pins
     ∷ start LiveOrRecorded
     ∷ start LiveOnly
     ∷ start LiveOrRecorded
-    ∷ duration (Seconds 0)
+    ∷ duration (Some 0)
     ∷ []
 unfolding pins start_of duration_of u32_of whole_of recode convert single_of of_bits to_bits round eq lt le is_nan
 pins_are = refl

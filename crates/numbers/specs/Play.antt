@@ -1,13 +1,11 @@
 -- What a double says as the start and as the duration of a play.
-use Rattle.std.specs.Prelude.{ℕ, true, false, pos, Float}
+use Rattle.std.specs.Prelude.{ℕ, true, false, pos, Float, Option, Some, None}
 use Rattle.std.specs.Float.{fin, binary64}
 use Rattle.std.specs.Float.Ieee.{of_bits, eq, le}
 use Rattle.numbers.specs.Choose.{pick}
 use Rattle.numbers.specs.Whole.{u32_of}
 use Rattle.numbers.specs.declared.play.PlayStartValue.{PlayStartValue}
 use Rattle.numbers.specs.declared.play.PlayStartValue.TheVariants.{LiveOrRecorded, LiveOnly, StartTimeInSeconds}
-use Rattle.numbers.specs.declared.play.PlayDuration.{PlayDuration}
-use Rattle.numbers.specs.declared.play.PlayDuration.TheVariants.{Unlimited, Seconds}
 
 -- -2.0 is 1 * 2 ^ 1 with its sign
 abbrev pub minus_two : Float
@@ -28,5 +26,5 @@ start_of b =
     LiveOrRecorded))
 
 -- "Duration: at least 0 its u32, else none."
-unfoldable pub duration_of : ℕ → PlayDuration
-duration_of b = pick (le none (of_bits binary64 b)) (Seconds (u32_of b)) Unlimited
+unfoldable pub duration_of : ℕ → Option ℕ
+duration_of b = pick (le none (of_bits binary64 b)) (Some (u32_of b)) None

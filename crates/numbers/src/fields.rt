@@ -6,12 +6,7 @@ ghost use Rattle.numbers.specs.Fields.{bytes_of, field_at, front, over};
 fn byte_past(s: &[u8], at: usize, i: usize) -> u8
     ensures { result ≡ get_or s.now (at + i) 0 }
 {
-    if at < s.len() {
-        if i < s.len() - at {
-            return s[at + i];
-        }
-    }
-    0
+    s.get(at.saturating_add(i)).copied().unwrap_or(0)
 }
 
 // The n bytes from `at` on as one number, the highest first.
@@ -20,10 +15,8 @@ fn field_at(s: &[u8], at: usize, n: usize) -> u64
     ensures { (result ≡ field_at n s.now at) × (result < 2 ^ (8 * n)) }
 {
     let mut x: u64 = 0;
-    let mut i: usize = 0;
-    while i < n {
-        x = x * 256 + (byte_past(s, at, i) as u64);
-        i += 1;
+    for i in 0..n {
+        x = x * 256 + u64::from(byte_past(s, at, i));
     }
     x
 }
@@ -63,10 +56,8 @@ pub fn write_field(out: &mut [u8], n: usize, x: u64)
     requires { n ≤ length out.old }
     ensures { out.new ≡ front (bytes_of n x) out.old }
 {
-    let mut i = n;
     let mut v = x;
-    while 0 < i {
-        i -= 1;
+    for i in (0..n).rev() {
         out[i] = (v % 256) as u8;
         v /= 256;
     }
@@ -77,11 +68,7 @@ pub fn write_bytes(out: &mut [u8], src: &[u8])
     requires { length src.now ≤ length out.old }
     ensures { out.new ≡ front src.now out.old }
 {
-    let mut i = src.len();
-    while 0 < i {
-        i -= 1;
-        out[i] = src[i];
-    }
+    out[..src.len()].copy_from_slice(src);
 }
 
 // The same two from `at` on: the rest of the buffer is lent on.

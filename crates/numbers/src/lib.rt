@@ -14,6 +14,6 @@ pub use fields::{
     byte_at, u16_at, u24_at, u32_at, u64_at, write_bytes, write_bytes_at, write_field,
     write_field_at,
 };
-pub use play::{PlayDuration, PlayStartValue, duration_of, start_of};
+pub use play::{PlayStartValue, duration_of, start_of};
 pub use single::{bits_of_f32, double_of_single, f32_of, f64_of, single_of};
 pub use whole::{double_of_u32, u32_of};

@@ -6,18 +6,11 @@ use crate::single::f64_of;
 use crate::whole::u32_of;
 
 // The Rust's name and cases.
-#[derive(Clone, Copy)]
+#[derive(Clone, Copy, Debug, PartialEq, Eq)]
 pub enum PlayStartValue {
     LiveOrRecorded,
     LiveOnly,
     StartTimeInSeconds(u32),
-}
-
-// The Rust's Option<u32>.
-#[derive(Clone, Copy)]
-pub enum PlayDuration {
-    Unlimited,
-    Seconds(u32),
 }
 
 // A NaN is equal to nothing and at least nothing, and minus zero is at least zero.
@@ -37,12 +30,13 @@ pub fn start_of(bits: u64) -> PlayStartValue
     PlayStartValue::LiveOrRecorded
 }
 
-pub fn duration_of(bits: u64) -> PlayDuration
+// None is a play without an end.
+pub fn duration_of(bits: u64) -> Option<u32>
     ensures { result ≡ duration_of bits }
 {
     let x = f64_of(bits);
     if 0.0 <= x {
-        return PlayDuration::Seconds(u32_of(bits));
+        return Some(u32_of(bits));
     }
-    PlayDuration::Unlimited
+    None
 }

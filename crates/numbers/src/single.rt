@@ -5,26 +5,6 @@ ghost use Rattle.std.specs.Float.Ieee.{of_bits, to_bits};
 ghost use Rattle.std.specs.Float.Ieee.Nearest.{closest};
 ghost use Rattle.numbers.specs.Single.{convert, digits, recode};
 
-// a - b, and 0 where b is the larger.
-fn beyond(a: u64, b: u64) -> u64
-    ensures { result ≡ a - b }
-{
-    if b < a { a - b } else { 0 }
-}
-
-fn least(a: u64, b: u64) -> u64
-    ensures { result ≡ min a b }
-{
-    if a < b { a } else { b }
-}
-
-fn power(s: u64) -> u64
-    requires { s < 64 }
-    ensures { result ≡ 2 ^ s }
-{
-    1 << s
-}
-
 // q / u to the nearest whole number, a tie to the even one.
 fn nearest_whole(q: u64, u: u64) -> u64
     requires u_nonzero { 0 < u }
@@ -51,7 +31,7 @@ fn nearest_shifted(q: u64, s: u64) -> u64
     if 54 <= s {
         return 0;
     }
-    nearest_whole(q, power(s))
+    nearest_whole(q, 1 << s)
 }
 
 // The digits of a double, with the leading one that its exponent's field stands for.
@@ -73,10 +53,10 @@ pub fn single_of(bits: u64) -> u32
     if 0x7FF0000000000000 < m {
         return 0x7FC00000;
     }
-    let j = beyond(m / 0x10000000000000, 1);
-    let k = beyond(j, 896);
+    let j = (m / 0x10000000000000).saturating_sub(1);
+    let k = j.saturating_sub(896);
     let n = nearest_shifted(double_digits(bits), 925 + k - j);
-    let v = least(k * 0x800000 + n, 0x7F800000);
+    let v = (k * 0x800000 + n).min(0x7F800000);
     (bits / 0x8000000000000000 * 0x80000000 + v) as u32
 }
 

@@ -2,20 +2,6 @@
 ghost use Rattle.std.specs.Prelude.{◌≡◌, ◌/◌, ◌<◌, ◌^◌};
 ghost use Rattle.numbers.specs.Whole.{double_of, u32_of};
 
-// q without its last n binary places, one halving for each.
-fn halved(q: u64, n: u64) -> u64
-    requires { n < 64 }
-    ensures { result ≡ q / 2 ^ n }
-{
-    let mut a = q;
-    let mut i = n;
-    while 0 < i {
-        a /= 2;
-        i -= 1;
-    }
-    a
-}
-
 // A double as a u32, as Rust's cast. The patterns of doubles that are no NaN and have no sign stand in
 // the order of their values, and every other pattern lies above them.
 pub fn u32_of(bits: u64) -> u32
@@ -28,7 +14,7 @@ pub fn u32_of(bits: u64) -> u32
     // below 2 ^ 32: 52 digits after the leading one, of which the exponent says how many are whole
     if bits < 0x41F0000000000000 {
         let q = 0x10000000000000 + bits % 0x10000000000000;
-        return halved(q, 1075 - bits / 0x10000000000000) as u32;
+        return (q >> (1075 - bits / 0x10000000000000)) as u32;
     }
     // up to the infinity
     if bits <= 0x7FF0000000000000 {

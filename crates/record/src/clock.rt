@@ -5,8 +5,5 @@ ghost use Rattle.record.specs.Clock.{time_of};
 pub fn time_of(start: u64, clock: u64) -> u32
     ensures { result ≡ time_of start clock }
 {
-    if clock < start {
-        return 0;
-    }
-    ((clock - start) % 4294967296) as u32
+    (clock.saturating_sub(start) % 4294967296) as u32
 }

@@ -2,23 +2,23 @@
 use mathlib.Core.Path.{◌≡◌, refl, sym, ap, ◌∙◌}
 use Prim.Native.Nat.{ℕ, ◌-◌, ◌≤◌, ◌<◌}
 use native.Mathlib.Omega.{arith}
-use mathlib.Core.Bool.{true, false}
+use Rattle.std.specs.Prelude.{Option, Some, None}
 use mathlib.Core.List.{List}
 use lib.ListN.{length, replicate, take, drop, drop_of_length-le, length-drop}
 use lib.Seq.{take_all, take_at, take-nil}
 use borrow.Author.Tests.{lt-ltb, le-ltb}
 use Rattle.numbers.specs.Fields.{front}
 use Rattle.numbers.proofs.FieldsLaws.{length_front}
-use Rattle.text.specs.declared.names.NameRead.{NameRead}
-use Rattle.text.specs.Names.{empty_name, name_of, name_read, text_of}
+use Rattle.text.specs.declared.names.Name.{Name}
+use Rattle.text.specs.Names.{name_of, name_read, text_of}
 
 -- ---- the two answers of `read_name`
 
-pub read_none : (t : List ℕ) → 128 < length t → ◌≡◌ {A = NameRead} (record { fits = false; name = empty_name }) (name_read t)
+pub read_none : (t : List ℕ) → 128 < length t → ◌≡◌ {A = Option Name} None (name_read t)
 unfolding name_read
 read_none t h = simp (lt-ltb 128 (length t) h)
 
-pub read_fits : (t b : List ℕ) → length t ≤ 128 → b ≡ front t (replicate 128 0) → ◌≡◌ {A = NameRead} (record { fits = true; name = record { bytes = b; len = length t } }) (name_read t)
+pub read_fits : (t b : List ℕ) → length t ≤ 128 → b ≡ front t (replicate 128 0) → ◌≡◌ {A = Option Name} (Some (record { bytes = b; len = length t })) (name_read t)
 unfolding name_read name_of
 read_fits t b h e = simp (e, le-ltb 128 (length t) h)
 
@@ -31,10 +31,6 @@ text_name t = take_at t _ (length t) refl
 pub name_places : (t : List ℕ) → length t ≤ 128 → length (name_of t).bytes ≡ 128
 unfolding name_of
 name_places t h = let z : List ℕ = replicate 128 0 in let n : length z ≡ 128 = refl in length_front t z (omega arith) ∙ n
-
--- a length past the end
-pub text_all : (b : List ℕ) (n : ℕ) → length b ≤ n → b ≡ take n b
-text_all b n h = sym (take_all n b h)
 
 -- ---- a part
 pub part_past : (b : List ℕ) (at n : ℕ) → length b < at → take 0 b ≡ take n (drop at b)

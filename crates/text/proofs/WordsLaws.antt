@@ -1,13 +1,11 @@
 -- `same` tells exactly whether two texts are the same list, and `which` goes down its table.
 use mathlib.Core.Path.{◌≡◌, refl, sym, ap, ap₂, ◌∙◌, subst}
-use Prim.Native.Nat.{ℕ, ◌+◌, ◌≤◌, ◌<◌}
-use native.Mathlib.Numerals.{add-one}
+use Prim.Native.Nat.{ℕ}
 use mathlib.Core.Bool.{Bool, true, false, ◌&&◌}
 use mathlib.Core.List.{List, [], ◌∷◌}
 use lib.Dec.{T, eqb}
-use lib.ListN.{length, drop, get_or, drop_of_length-le}
-use lib.Seq.{drop-cons}
-use borrow.Author.Tests.{eqb-true, eq-eqb, ne_eqb}
+use lib.Pointwise.{pointwise}
+use borrow.Author.Tests.{eqb-true, eq-eqb}
 use Rattle.numbers.specs.Choose.{pick}
 use Rattle.text.specs.Words.{same, which}
 
@@ -40,19 +38,13 @@ same_not a b n = go (same a b) refl
     go true e = absurd (n (same_eq a b e))
     go false e = refl
 
--- ---- one place further
-module _ (a b : List ℕ) (i : ℕ) (ha : i < length a) (hb : i < length b) where
-  pub same_step : get_or a i 0 ≡ get_or b i 0 → same (drop i a) (drop i b) ≡ same (drop (i + 1) a) (drop (i + 1) b)
-  unfolding same
-  same_step e = rw (drop-cons a i 0 ha, drop-cons b i 0 hb, eq-eqb _ _ e, add-one i)
-
-  pub same_differs : (get_or a i 0 ≡ get_or b i 0 → ⊥) → same (drop i a) (drop i b) ≡ false
-  unfolding same
-  same_differs n = rw (drop-cons a i 0 ha, drop-cons b i 0 hb, ne_eqb _ _ n)
-
-pub same_end : (a b : List ℕ) (i : ℕ) → length a ≤ i → length b ≤ i → same (drop i a) (drop i b) ≡ true
+-- std's comparison of two slices says the same
+pub same_pointwise : (a b : List ℕ) → pointwise eqb a b ≡ same a b
 unfolding same
-same_end a b i h g = rw (drop_of_length-le a {i = i} h, drop_of_length-le b {i = i} g)
+same_pointwise [] [] = refl
+same_pointwise [] (y ∷ ys) = refl
+same_pointwise (x ∷ xs) [] = refl
+same_pointwise (x ∷ xs) (y ∷ ys) = ap (λ (t : Bool). eqb x y && t) (same_pointwise xs ys)
 
 -- ---- a table of words; r is the test of its first word
 module _ {X : Type 0} (s w : List ℕ) (r : Bool) (x other : X) (ws : List (List ℕ × X)) (e : r ≡ same s w) where

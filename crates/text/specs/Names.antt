@@ -1,11 +1,10 @@
 -- Names: "`String` becomes a name of 128 bytes with its length."
-use Rattle.std.specs.Prelude.{ℕ, true, false, List, ltb, length, replicate, take}
+use Rattle.std.specs.Prelude.{ℕ, List, Option, Some, None, ltb, length, replicate, take}
 use Rattle.numbers.specs.Choose.{pick}
 use Rattle.numbers.specs.Fields.{front}
 use Rattle.text.specs.declared.names.Name.{Name}
-use Rattle.text.specs.declared.names.NameRead.{NameRead}
 
--- a name's text. (Two names are the same where their texts are.)
+-- a name's text
 abbrev pub text_of : Name → List ℕ
 text_of n = take n.len n.bytes
 
@@ -17,5 +16,5 @@ abbrev pub empty_name : Name
 empty_name = record { bytes = replicate 128 0; len = 0 }
 
 -- the name of any text, or none
-unfoldable pub name_read : List ℕ → NameRead
-name_read t = pick (ltb 128 (length t)) (record { fits = false; name = empty_name }) (record { fits = true; name = name_of t })
+unfoldable pub name_read : List ℕ → Option Name
+name_read t = pick (ltb 128 (length t)) None (Some (name_of t))

@@ -1,13 +1,12 @@
 -- Texts as lists of bytes, and which of some fixed words a text is.
-use Rattle.std.specs.Prelude.{ℕ, Bool, true, false, ◌&&◌, List, [], ◌∷◌, eqb}
+use Rattle.std.specs.Prelude.{ℕ, Bool, true, false, ◌&&◌, List, [], ◌∷◌, eqb, Option, Some, None}
 use Prim.Native.Char.{code}
 use Prim.Native.String.{String, [] as empty, ◌∷◌ as ◌then◌}
 use Rattle.numbers.specs.Choose.{pick}
 use Rattle.text.specs.declared.words.Command.{Command}
 use Rattle.text.specs.declared.words.Command.TheVariants.{Connect, CreateStream, CloseStream, DeleteStream, Publish, Play, Other}
+use Rattle.text.specs.declared.words.PublishMode.{PublishMode}
 use Rattle.text.specs.declared.words.PublishMode.TheVariants.{Live, Append, Record}
-use Rattle.text.specs.declared.words.ModeWord.{ModeWord}
-use Rattle.text.specs.declared.words.ModeWord.TheVariants.{Mode, Other as NoMode}
 
 -- the bytes of a text of characters below 128
 abbrev pub text : String → List ℕ
@@ -40,5 +39,5 @@ command_of =
     Other
 
 -- "mode one of live, append, record"
-abbrev pub mode_of : List ℕ → ModeWord
-mode_of = which ((text "live", Mode Live) ∷ (text "append", Mode Append) ∷ (text "record", Mode Record) ∷ []) NoMode
+abbrev pub mode_of : List ℕ → Option PublishMode
+mode_of = which ((text "live", Some Live) ∷ (text "append", Some Append) ∷ (text "record", Some Record) ∷ []) None

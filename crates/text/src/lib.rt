@@ -6,7 +6,5 @@ mod names;
 mod words;
 
 pub use ids::{RequestId, StreamId};
-pub use names::{
-    Name, NameRead, empty_name, name_is, part_of, read_name, room_of, same_name, text_of,
-};
-pub use words::{Command, ModeWord, PublishMode, command_of, is_word, mode_of};
+pub use names::{Name, empty_name, name_is, part_of, read_name, text_of};
+pub use words::{Command, PublishMode, command_of, is_word, mode_of};

@@ -6,21 +6,11 @@ ghost use Rattle.text.specs.Words.{command_of, mode_of, same};
 pub fn is_word(part: &[u8], word: &[u8]) -> bool
     ensures { result ≡ same part.now word.now }
 {
-    if part.len() != word.len() {
-        return false;
-    }
-    let mut i = 0;
-    while i < part.len() {
-        if part[i] != word[i] {
-            return false;
-        }
-        i += 1;
-    }
-    true
+    part == word
 }
 
 // The commands that are known. Any other does nothing.
-#[derive(Clone, Copy)]
+#[derive(Clone, Copy, Debug, PartialEq, Eq)]
 pub enum Command {
     Connect,
     CreateStream,
@@ -56,30 +46,25 @@ pub fn command_of(name: &[u8]) -> Command
 }
 
 // How a stream is published: the Rust's cases.
-#[derive(Clone, Copy)]
+#[derive(Clone, Copy, Debug, PartialEq, Eq)]
 pub enum PublishMode {
     Live,
     Append,
     Record,
 }
 
-#[derive(Clone, Copy)]
-pub enum ModeWord {
-    Mode(PublishMode),
-    Other,
-}
-
-pub fn mode_of(word: &[u8]) -> ModeWord
+// None is a word that names no mode.
+pub fn mode_of(word: &[u8]) -> Option<PublishMode>
     ensures { result ≡ mode_of word.now }
 {
     if is_word(word, b"live") {
-        return ModeWord::Mode(PublishMode::Live);
+        return Some(PublishMode::Live);
     }
     if is_word(word, b"append") {
-        return ModeWord::Mode(PublishMode::Append);
+        return Some(PublishMode::Append);
     }
     if is_word(word, b"record") {
-        return ModeWord::Mode(PublishMode::Record);
+        return Some(PublishMode::Record);
     }
-    ModeWord::Other
+    None
 }

@@ -1,4 +1,4 @@
-use mathlib.Core.Path.{◌≡◌, refl, sym}
+use mathlib.Core.Path.{refl, ◌∙◌}
 use native.Mathlib.Omega.{arith}
 use lib.Dec.{lit≤}
 use Rattle.numbers.specs.Fields.{field_at}
@@ -7,16 +7,13 @@ use Rattle.numbers.proofs.fields.field_at.Goals as goal
 
 pub loop-i-init : goal.loop-i-init
 unfolding field_at
-loop-i-init c = (omega arith, (refl, lit≤ tt))
+loop-i-init c = (refl, lit≤ tt)
 
 pub overflow_mul-x : goal.overflow_mul-x
-overflow_mul-x c = omega (arith, field_room c.loop-i.i c.loop-i.x (omega arith) c.loop-i.invariant.1.1)
+overflow_mul-x c = omega (arith, field_room c.loop-i.i c.loop-i.x (omega arith) c.loop-i.invariant.1)
 
 pub overflow_add-x : goal.overflow_add-x
-overflow_add-x c = omega (arith, field_room c.loop-i.i c.loop-i.x (omega arith) c.loop-i.invariant.1.1)
+overflow_add-x c = omega (arith, field_room c.loop-i.i c.loop-i.x (omega arith) c.loop-i.invariant.1)
 
 pub loop-i-preserved : goal.loop-i-preserved
-loop-i-preserved c = let v = c.loop-i.invariant.1 in (omega arith, (field_on _ _ _ _ _ v.0 c.byte_past.ensures, field_small _ _ _ v.1 (omega arith)))
-
-pub returns : goal.returns
-returns c = let e : c.loop-i.i ≡ c.args.n = omega arith in rw (sym e) c.loop-i.invariant.1
+loop-i-preserved c = let v = c.loop-i.invariant in (field_on _ _ _ _ _ v.0 (c.from.ensures ∙ c.byte_past.ensures), field_small _ _ _ v.1 (omega arith))

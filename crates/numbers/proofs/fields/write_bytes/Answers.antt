@@ -1,17 +1,10 @@
-use mathlib.Core.Path.{refl}
-use native.Mathlib.Omega.{arith}
-use lib.ListN.{length-set}
-use Rattle.numbers.proofs.FieldsLaws.{bytes_on, bytes_done, bytes_start}
+use mathlib.Core.Path.{ap}
+use mathlib.Core.List.{List, ◌++◌}
+use Prim.Native.Nat.{ℕ}
+use lib.ListN.{length, drop}
+use Rattle.numbers.specs.Fields.{front}
 use Rattle.numbers.proofs.fields.write_bytes.Goals as goal
 
-pub loop-i-init : goal.loop-i-init
-loop-i-init c = (omega arith, (refl, bytes_start _ _))
-
-pub loop-i-preserved : goal.loop-i-preserved
-loop-i-preserved c = (omega arith, (simp length-set (omega arith), bytes_on _ c.args.src.now c.loop-i.i _ c.loop-i.invariant.1.1 (omega arith) (omega arith) (omega arith)))
-
-pub shape_of-out : goal.shape_of-out
-shape_of-out c = c.loop-i.invariant.1.0
-
 pub returns : goal.returns
-returns c = bytes_done _ c.args.src.now c.loop-i.i _ c.loop-i.invariant.1.1 (omega arith)
+unfolding front
+returns c = ap (λ (l : List ℕ). l ++ drop (length c.args.src.now) c.args.out.now) c.copy_from_slice.ensures.after
