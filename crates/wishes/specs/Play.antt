@@ -1,41 +1,37 @@
 -- What a play wants.
-use Rattle.std.specs.Prelude.{ℕ, List}
-use Rattle.numbers.specs.Choose.{pick}
+use Rattle.std.specs.Prelude.{ℕ, false, List, Option, Some, None, Result, Ok}
+use Rattle.std.specs.Option.{option_and_then, unwrap_or}
 use Rattle.numbers.specs.Play.{duration_of, start_of}
-use Rattle.numbers.specs.declared.play.PlayDuration.{PlayDuration}
-use Rattle.numbers.specs.declared.play.PlayDuration.TheVariants.{Unlimited}
 use Rattle.numbers.specs.declared.play.PlayStartValue.{PlayStartValue}
 use Rattle.numbers.specs.declared.play.PlayStartValue.TheVariants.{LiveOrRecorded}
+use Rattle.text.specs.Names.{name_read}
 use Rattle.amf0.specs.declared.plain.Plain.{Plain}
-use Rattle.wishes.specs.Values.{bits_in, is_number, is_text, is_there, text_in, truth_in, value_of}
-use Rattle.wishes.specs.Wish.{just_want, named_want, unless}
+use Rattle.wishes.specs.Values.{bits_in, text_in, truth_in, value_of}
+use Rattle.wishes.specs.Wish.{need}
 use Rattle.wishes.specs.declared.wish.PlayArguments.{PlayArguments}
-use Rattle.wishes.specs.declared.wish.PlayArguments.TheVariants.{TooFew, KeyNoString, Good}
-use Rattle.wishes.specs.declared.wish.Want.TheVariants.{Play}
+use Rattle.wishes.specs.declared.wish.PlayFault.{PlayFault}
+use Rattle.wishes.specs.declared.wish.PlayFault.TheVariants.{TooFew, KeyNoString}
 use Rattle.wishes.specs.declared.wish.Wish.{Wish}
+use Rattle.wishes.specs.declared.wish.Wish.TheVariants.{Play}
+
+abbrev pub start_by : Option ℕ → PlayStartValue
+start_by (Some b) = start_of b
+start_by None = LiveOrRecorded
 
 -- "anything else or absent LiveOrRecorded"
-unfoldable pub start_in : Plain → PlayStartValue
-start_in v = pick (is_number v) (start_of (bits_in v)) LiveOrRecorded
+abbrev pub start_in : Option Plain → PlayStartValue
+start_in v = start_by (bits_in v)
 
 -- "Duration: at least 0 its u32, else none."
-unfoldable pub duration_in : Plain → PlayDuration
-duration_in v = pick (is_number v) (duration_of (bits_in v)) Unlimited
+abbrev pub duration_in : Option Plain → Option ℕ
+duration_in v = option_and_then duration_of (bits_in v)
 
--- the second, third and fourth argument; "Reset: a boolean, else false."
-unfoldable pub play_arguments : List ℕ → PlayArguments
-play_arguments s = Good (start_in (value_of s 4)) (duration_in (value_of s 5)) (truth_in (value_of s 6))
+-- "likewise one argument, connected, key a string"; the second, third and fourth argument; "Reset: a boolean, else false."
+abbrev pub play_of : List ℕ → Option Plain → Result PlayArguments PlayFault
+play_of s key =
+    need key TooFew λ _.
+    need (text_in s key) KeyNoString λ k.
+    Ok (record { start = start_in (value_of s 4); duration = duration_in (value_of s 5); reset = unwrap_or (truth_in (value_of s 6)) false; key = name_read k })
 
--- a play that fails a test: its key is not looked at
-abbrev pub play_fault : ℕ → PlayArguments → Wish
-play_fault transaction fault = just_want (Play transaction fault)
-
--- "likewise one argument, connected, key a string"
-unfoldable pub play_of : List ℕ → ℕ → Plain → Wish
-play_of s transaction key =
-    unless (is_there key) (play_fault transaction TooFew)
-    (unless (is_text key) (play_fault transaction KeyNoString)
-    (named_want (Play transaction (play_arguments s)) (text_in s key)))
-
-unfoldable pub play_wish : List ℕ → ℕ → Wish
-play_wish s transaction = play_of s transaction (value_of s 3)
+abbrev pub play_wish : List ℕ → ℕ → Wish
+play_wish s transaction = Play transaction (play_of s (value_of s 3))

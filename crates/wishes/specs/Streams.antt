@@ -1,19 +1,26 @@
 -- What a closeStream and a deleteStream want: "nothing unless connected and the first argument is a number whose u32 names a stream"
-use Rattle.numbers.specs.Choose.{pick}
+use Rattle.std.specs.Prelude.{ℕ, Option, Some, None}
+use Rattle.std.specs.Option.{option_map}
 use Rattle.numbers.specs.Whole.{u32_of}
 use Rattle.text.specs.declared.ids.StreamId.{StreamId}
 use Rattle.amf0.specs.declared.plain.Plain.{Plain}
-use Rattle.wishes.specs.Values.{bits_in, is_number}
-use Rattle.wishes.specs.Wish.{just_want}
-use Rattle.wishes.specs.declared.wish.Want.TheVariants.{CloseStream, DeleteStream, Nothing}
+use Rattle.wishes.specs.Values.{bits_in}
 use Rattle.wishes.specs.declared.wish.Wish.{Wish}
+use Rattle.wishes.specs.declared.wish.Wish.TheVariants.{CloseStream, DeleteStream, Nothing}
 
-abbrev pub stream_in : Plain → StreamId
-stream_in v = record { 0 = u32_of (bits_in v) }
+abbrev pub stream_of_bits : ℕ → StreamId
+stream_of_bits b = record { 0 = u32_of b }
+
+abbrev pub stream_in : Option Plain → Option StreamId
+stream_in v = option_map stream_of_bits (bits_in v)
+
+abbrev pub if_stream : (StreamId → Wish) → Option StreamId → Wish
+if_stream wish (Some x) = wish x
+if_stream wish None = Nothing
 
 -- of the first argument
-unfoldable pub close_wish : Plain → Wish
-close_wish v = pick (is_number v) (just_want (CloseStream (stream_in v))) (just_want Nothing)
+abbrev pub close_wish : Option Plain → Wish
+close_wish v = if_stream CloseStream (stream_in v)
 
-unfoldable pub delete_wish : Plain → Wish
-delete_wish v = pick (is_number v) (just_want (DeleteStream (stream_in v))) (just_want Nothing)
+abbrev pub delete_wish : Option Plain → Wish
+delete_wish v = if_stream DeleteStream (stream_in v)

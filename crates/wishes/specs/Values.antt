@@ -1,78 +1,54 @@
 -- The values of a body by their number, and what each says. "Only marker 02 counts as a string, and only 03 has properties."
-use Rattle.std.specs.Prelude.{ℕ, Bool, true, false, ◌&&◌, List, [], take, drop}
+use Rattle.std.specs.Prelude.{ℕ, Bool, true, false, List, Option, Some, None, take, drop}
 use Rattle.text.specs.Words.{same}
 use Rattle.amf0.specs.Bodies.{place_of}
 use Rattle.amf0.specs.Plain.{plain_at}
 use Rattle.amf0.specs.declared.plain.Plain.{Plain}
-use Rattle.amf0.specs.declared.plain.Plain.TheVariants.{Bits, Boolean, Text, Object, Other, NoValue}
+use Rattle.amf0.specs.declared.plain.Plain.TheVariants.{Bits, Boolean, Text, Object, Other}
 
--- the k-th value, counted from 0; `NoValue` where there are not so many
-unfoldable pub value_of : List ℕ → ℕ → Plain
+-- the k-th value, counted from 0; none where there are not so many
+unfoldable pub value_of : List ℕ → ℕ → Option Plain
 value_of s k = plain_at s (place_of s k)
 
--- ---- of what type it is
+abbrev pub is_object : Option Plain → Bool
+is_object (Some (Bits b)) = false
+is_object (Some (Boolean t)) = false
+is_object (Some (Text start len)) = false
+is_object (Some Object) = true
+is_object (Some Other) = false
+is_object None = false
 
-abbrev pub is_there : Plain → Bool
-is_there (Bits b) = true
-is_there (Boolean t) = true
-is_there (Text start len) = true
-is_there Object = true
-is_there Other = true
-is_there NoValue = false
+-- a number's bits
+abbrev pub bits_in : Option Plain → Option ℕ
+bits_in (Some (Bits b)) = Some b
+bits_in (Some (Boolean t)) = None
+bits_in (Some (Text start len)) = None
+bits_in (Some Object) = None
+bits_in (Some Other) = None
+bits_in None = None
 
-abbrev pub is_number : Plain → Bool
-is_number (Bits b) = true
-is_number (Boolean t) = false
-is_number (Text start len) = false
-is_number Object = false
-is_number Other = false
-is_number NoValue = false
+-- a boolean
+abbrev pub truth_in : Option Plain → Option Bool
+truth_in (Some (Bits b)) = None
+truth_in (Some (Boolean t)) = Some t
+truth_in (Some (Text start len)) = None
+truth_in (Some Object) = None
+truth_in (Some Other) = None
+truth_in None = None
 
-abbrev pub is_text : Plain → Bool
-is_text (Bits b) = false
-is_text (Boolean t) = false
-is_text (Text start len) = true
-is_text Object = false
-is_text Other = false
-is_text NoValue = false
+-- a string's bytes
+abbrev pub text_in : List ℕ → Option Plain → Option (List ℕ)
+text_in s (Some (Bits b)) = None
+text_in s (Some (Boolean t)) = None
+text_in s (Some (Text start len)) = Some (take len (drop start s))
+text_in s (Some Object) = None
+text_in s (Some Other) = None
+text_in s None = None
 
-abbrev pub is_object : Plain → Bool
-is_object (Bits b) = false
-is_object (Boolean t) = false
-is_object (Text start len) = false
-is_object Object = true
-is_object Other = false
-is_object NoValue = false
-
--- ---- what it says
-
--- a number's bits, else 0
-abbrev pub bits_in : Plain → ℕ
-bits_in (Bits b) = b
-bits_in (Boolean t) = 0
-bits_in (Text start len) = 0
-bits_in Object = 0
-bits_in Other = 0
-bits_in NoValue = 0
-
--- "a boolean, else false"
-abbrev pub truth_in : Plain → Bool
-truth_in (Bits b) = false
-truth_in (Boolean t) = t
-truth_in (Text start len) = false
-truth_in Object = false
-truth_in Other = false
-truth_in NoValue = false
-
--- a string's bytes, else none
-abbrev pub text_in : List ℕ → Plain → List ℕ
-text_in s (Bits b) = []
-text_in s (Boolean t) = []
-text_in s (Text start len) = take len (drop start s)
-text_in s Object = []
-text_in s Other = []
-text_in s NoValue = []
+abbrev pub is_text : List ℕ → Option (List ℕ) → Bool
+is_text w (Some t) = same t w
+is_text w None = false
 
 -- whether it is a string, and this word
-unfoldable pub says : List ℕ → Plain → List ℕ → Bool
-says s v w = is_text v && same (text_in s v) w
+abbrev pub says : List ℕ → Option Plain → List ℕ → Bool
+says s v w = is_text w (text_in s v)

@@ -1,61 +1,34 @@
 // What a data message wants.
 ghost use Rattle.std.specs.Prelude.{◌≡◌};
-ghost use Rattle.amf0.specs.Bodies.{place_of};
-ghost use Rattle.metadata.specs.Reading.{metadata_at};
-ghost use Rattle.wishes.specs.DataFrame.{data_wish, metadata_wish, sets_metadata, whole_data};
+ghost use Rattle.wishes.specs.DataFrame.{data_wish, sets_metadata, whole_data};
 
-use crate::outcome::Outcome;
-use crate::values::{is_there, says, value_of};
-use crate::wish::{LONGEST_BODY, Want, Wish, just_want, refused_wish};
-use amf0::{Checked, check_body, place_of};
+use crate::outcome::Refusal;
+use crate::values::{says, value_of};
+use crate::wish::{Wish, check_whole};
+use amf0::place_of;
 use metadata::read_metadata;
-use text::empty_name;
 
 fn sets_metadata(body: &[u8]) -> bool
     ensures { result ≡ sets_metadata body.now }
 {
-    if !says(body, value_of(body, 0), b"@setDataFrame") {
-        return false;
-    }
-    if !says(body, value_of(body, 1), b"onMetaData") {
-        return false;
-    }
-    is_there(value_of(body, 2))
+    says(body, value_of(body, 0), b"@setDataFrame")
+        && says(body, value_of(body, 1), b"onMetaData")
+        && value_of(body, 2).is_some()
 }
 
-// Of the third value; one that is no object has no property.
-fn metadata_wish(body: &[u8]) -> Wish
-    ensures { result ≡ metadata_wish (metadata_at body.now (place_of body.now 2)) }
-{
-    let read = read_metadata(body, place_of(body, 2));
-    let metadata = read.metadata;
-    let name = empty_name();
-    Wish {
-        want: Want::Metadata,
-        fits: read.encoder_fits,
-        name,
-        metadata,
-    }
-}
-
+// The metadata of the third value; one that is no object has no property.
 fn whole_data(body: &[u8]) -> Wish
     ensures { result ≡ whole_data body.now }
 {
     if sets_metadata(body) {
-        return metadata_wish(body);
+        return Wish::Metadata(read_metadata(body, place_of(body, 2)));
     }
-    just_want(Want::Nothing)
+    Wish::Nothing
 }
 
-pub fn data_wish(body: &[u8]) -> Wish
+pub fn data_wish(body: &[u8]) -> Result<Wish, Refusal>
     ensures { result ≡ data_wish body.now }
 {
-    if LONGEST_BODY < body.len() {
-        return refused_wish(Outcome::BodyTooLong);
-    }
-    match check_body(body) {
-        Checked::Whole => whole_data(body),
-        Checked::Bad => refused_wish(Outcome::NotAmf0),
-        Checked::Deep => refused_wish(Outcome::TooDeep),
-    }
+    check_whole(body)?;
+    Ok(whole_data(body))
 }

@@ -15,5 +15,5 @@ mod wish;
 pub use commands::command_wish;
 pub use control::control_wish;
 pub use data_frame::data_wish;
-pub use outcome::{Action, Outcome, number_of};
-pub use wish::{PlayArguments, PublishArguments, Want, Wish, just_want, refused_wish};
+pub use outcome::{Action, Outcome, Refusal, number_of};
+pub use wish::{PlayArguments, PlayFault, PublishArguments, PublishFault, Wish};

@@ -2,32 +2,32 @@
 ghost use Rattle.std.specs.Prelude.{◌≡◌};
 ghost use Rattle.wishes.specs.Streams.{close_wish, delete_wish, stream_in};
 
-use crate::values::{bits_in, is_number};
-use crate::wish::{Want, Wish, just_want};
+use crate::values::bits_in;
+use crate::wish::Wish;
 use amf0::Plain;
 use numbers::u32_of;
 use text::StreamId;
 
-fn stream_in(value: Plain) -> StreamId
+fn stream_in(value: Option<Plain>) -> Option<StreamId>
     ensures { result ≡ stream_in value }
 {
-    StreamId(u32_of(bits_in(value)))
+    Some(StreamId(u32_of(bits_in(value)?)))
 }
 
-pub fn close_wish(argument: Plain) -> Wish
+pub fn close_wish(argument: Option<Plain>) -> Wish
     ensures { result ≡ close_wish argument }
 {
-    if is_number(argument) {
-        return just_want(Want::CloseStream(stream_in(argument)));
+    match stream_in(argument) {
+        Some(stream) => Wish::CloseStream(stream),
+        None => Wish::Nothing,
     }
-    just_want(Want::Nothing)
 }
 
-pub fn delete_wish(argument: Plain) -> Wish
+pub fn delete_wish(argument: Option<Plain>) -> Wish
     ensures { result ≡ delete_wish argument }
 {
-    if is_number(argument) {
-        return just_want(Want::DeleteStream(stream_in(argument)));
+    match stream_in(argument) {
+        Some(stream) => Wish::DeleteStream(stream),
+        None => Wish::Nothing,
     }
-    just_want(Want::Nothing)
 }
