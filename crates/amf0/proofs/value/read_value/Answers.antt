@@ -1,9 +1,7 @@
+use mathlib.Core.Path.{sym}
 use native.Mathlib.Omega.{arith}
-use Rattle.amf0.proofs.ReadingLaws.{read_end, read_in}
+use Rattle.amf0.proofs.ReadingLaws.{past_in}
 use Rattle.amf0.proofs.value.read_value.Goals as goal
 
-pub returns-then-at-body : goal.returns-then-at-body
-returns-then-at-body c = read_in _ _ _ c.read_marked.ensures (omega arith)
-
-pub returns : goal.returns
-returns c = read_end _ _ _ c.no_value.ensures (omega arith)
+pub bounds-body-at : goal.bounds-body-at
+bounds-body-at c = omega (arith, past_in _ _ _ _ (sym c.in_ok-p.ensures))

@@ -1,6 +1,8 @@
-use native.Mathlib.Omega.{arith}
-use Rattle.numbers.proofs.FieldsLaws.{lent_part}
+use Rattle.numbers.specs.Fields.{bytes_of}
+use Rattle.amf0.specs.Writing.{encode}
 use Rattle.amf0.proofs.write.write_boolean_at.Goals as goal
+use Rattle.amf0.proofs.write.write_boolean_at.Goals.{then-b, else-b}
 
 pub returns : goal.returns
-returns c = lent_part _ _ _ _ c.write_boolean.ensures (omega arith)
+unfolding bytes_of encode
+returns c = elim c.if-b.branch [ then-b w ↦ rw w.if-b.true (rw w.write_field_at-is at c.write_field_at.ensures) | else-b w ↦ rw w.if-b.false (rw w.write_field_at-is at c.write_field_at.ensures) ]
