@@ -8,7 +8,16 @@ use lib.Seq.{drop_at, take_at}
 use Rattle.text.specs.Words.{same, text}
 use Rattle.text.proofs.WordsLaws.{same_not, same_refl}
 use Rattle.wishes.specs.Connect.{without_slash}
-use Rattle.wishes.proofs.ChoiceLaws.{pick_here, pick_past}
+use mathlib.Core.Bool.{Bool, true, false}
+use Rattle.numbers.specs.Choose.{pick}
+
+-- the choice by a test t that was made of b
+module _ {X : Type 0} (t b : Bool) (x y z : X) (e : t ≡ b) where
+  pick_here : t ≡ true → z ≡ x → z ≡ pick b x y
+  pick_here h f = f ∙ ap (λ (q : Bool). pick q x y) (sym h ∙ e)
+
+  pick_past : t ≡ false → z ≡ y → z ≡ pick b x y
+  pick_past h f = f ∙ ap (λ (q : Bool). pick q x y) (sym h ∙ e)
 
 -- t, and one byte behind it
 module _ (t : List ℕ) (b : ℕ) where

@@ -32,5 +32,5 @@ whole_command s =
     need (value_of s 2) NoCommand λ _.
     known_command s transaction (command_of name)
 
-abbrev pub command_wish : List ℕ → Result Wish Refusal
+unfoldable pub command_wish : List ℕ → Result Wish Refusal
 command_wish s = and_then (whole_body s) (whole_command s)

@@ -18,5 +18,5 @@ sets_metadata s = says s (value_of s 0) (text "@setDataFrame") && (says s (value
 unfoldable pub whole_data : List ℕ → Wish
 whole_data s = pick (sets_metadata s) (Metadata (metadata_at s (place_of s 2))) Nothing
 
-abbrev pub data_wish : List ℕ → Result Wish Refusal
+unfoldable pub data_wish : List ℕ → Result Wish Refusal
 data_wish s = and_then (whole_body s) (Ok (whole_data s))

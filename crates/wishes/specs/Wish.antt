@@ -2,7 +2,7 @@
 use Rattle.std.specs.Prelude.{ℕ, Bool, true, false, List, Option, Some, None, Result, Ok, Err, ltb, length}
 use Rattle.numbers.specs.Choose.{pick}
 use Rattle.amf0.specs.Bodies.{checked}
-use Rattle.amf0.specs.declared.skip.BodyError.{BodyError}
+use Rattle.amf0.specs.declared.error.BodyError.{BodyError}
 use Rattle.wishes.specs.Outcome.{Outcome, refusal_of}
 use Rattle.wishes.specs.declared.outcome.Refusal.{Refusal}
 use Rattle.wishes.specs.declared.outcome.Refusal.TheVariants.{BodyTooLong}

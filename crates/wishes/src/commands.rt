@@ -37,6 +37,7 @@ fn whole_command(body: &[u8]) -> Result<Wish, Refusal>
     known_command(body, transaction, command_of(name))
 }
 
+#[tactic(auto, unfolding(crate::specs::Commands::command_wish))]
 pub fn command_wish(body: &[u8]) -> Result<Wish, Refusal>
     ensures { result ≡ command_wish body.now }
 {

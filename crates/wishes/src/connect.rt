@@ -9,6 +9,7 @@ use amf0::{Plain, place_of, plain_property};
 use text::read_name;
 
 // One slash alone: "live//" gives "live/".
+#[tactic(auto, using(text::proofs::WordsLaws::same_pointwise), unfolding(crate::specs::Connect::without_slash))]
 fn without_slash(app: &[u8]) -> &[u8]
     ensures { result.now ≡ without_slash app.now }
 {

@@ -6,6 +6,7 @@ use crate::outcome::Refusal;
 use crate::wish::{LONGEST_BODY, Wish};
 use numbers::{u16_at, u32_at};
 
+#[tactic(auto, unfolding(crate::specs::Control::ping_wish))]
 fn ping_wish(body: &[u8], ping: Wish) -> Result<Wish, Refusal>
     ensures { result ≡ ping_wish body.now ping }
 {
@@ -15,6 +16,7 @@ fn ping_wish(body: &[u8], ping: Wish) -> Result<Wish, Refusal>
     Ok(ping)
 }
 
+#[tactic(auto, unfolding(crate::specs::Control::event_wish))]
 fn event_wish(body: &[u8], event: u16) -> Result<Wish, Refusal>
     ensures { result ≡ event_wish body.now event }
 {
@@ -26,6 +28,7 @@ fn event_wish(body: &[u8], event: u16) -> Result<Wish, Refusal>
     }
 }
 
+#[tactic(auto, unfolding(crate::specs::Control::control_wish))]
 pub fn control_wish(body: &[u8]) -> Result<Wish, Refusal>
     ensures { result ≡ control_wish body.now }
 {

@@ -8,6 +8,7 @@ use crate::wish::{Wish, check_whole};
 use amf0::place_of;
 use metadata::read_metadata;
 
+#[tactic(auto, unfolding(crate::specs::DataFrame::sets_metadata))]
 fn sets_metadata(body: &[u8]) -> bool
     ensures { result ≡ sets_metadata body.now }
 {
@@ -17,6 +18,7 @@ fn sets_metadata(body: &[u8]) -> bool
 }
 
 // The metadata of the third value; one that is no object has no property.
+#[tactic(auto, unfolding(crate::specs::DataFrame::whole_data))]
 fn whole_data(body: &[u8]) -> Wish
     ensures { result ≡ whole_data body.now }
 {
@@ -26,6 +28,7 @@ fn whole_data(body: &[u8]) -> Wish
     Wish::Nothing
 }
 
+#[tactic(auto, unfolding(crate::specs::DataFrame::data_wish))]
 pub fn data_wish(body: &[u8]) -> Result<Wish, Refusal>
     ensures { result ≡ data_wish body.now }
 {

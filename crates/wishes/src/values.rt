@@ -6,6 +6,7 @@ use amf0::{Plain, place_of, plain_at};
 use text::{is_word, part_of};
 
 // The k-th value, counted from 0. Null and its like are values too.
+#[tactic(auto, unfolding(crate::specs::Values::value_of))]
 pub fn value_of(body: &[u8], k: usize) -> Option<Plain>
     ensures { result ≡ value_of body.now k }
 {

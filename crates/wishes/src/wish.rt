@@ -68,6 +68,7 @@ pub enum Wish {
 }
 
 // 1, then 2 or 3.
+#[tactic(auto, unfolding(crate::specs::Wish::whole_body))]
 pub fn check_whole(body: &[u8]) -> Result<(), Refusal>
     ensures { result ≡ whole_body body.now }
 {
