@@ -1,2 +1,4 @@
 pub mod ReadingLaws
 pub mod SkippingLaws
+pub mod PropertyLaws
+pub mod BodiesLaws
