@@ -39,6 +39,9 @@ module _ (s : List ℕ) (p n : ℕ) where
   pub past_in : (q : ℕ) → past s p n ≡ Some q → (q ≡ p + n) × (p + n ≤ length s)
   past_in = past_kinds (λ (x : Option ℕ). (q : ℕ) → x ≡ Some q → (q ≡ p + n) × (p + n ≤ length s)) (λ h q e. let z : q ≡ p + n = cc in (z, h)) (λ q e. cc)
 
+pub within_in : {X : Type 0} (s : List ℕ) (p n : ℕ) (f : ℕ → Result X BodyError) → p + n ≤ length s → within (past s p n) f ≡ f (p + n)
+within_in s p n f h = sym (ap (λ (o : Option ℕ). within o f) (past_yes s p n h))
+
 pub held_yes : (s : List ℕ) (p n : ℕ) (v : Amf0Value) → p + n ≤ length s → Some (record { value = v; next = p + n }) ≡ held s p n v
 held_yes s p n v h = ap (option_map (λ (q : ℕ). record { value = v; next = q })) (past_yes s p n h)
 

@@ -37,6 +37,9 @@ read_cases s at P none some =
     = λ w made h. some (made (at + 1 + w) (field_at w s (at + 1))) (at + 1 + w + field_at w s (at + 1)) (omega arith) in
     read_kinds s at P none (fixed 0x00 8 _) (fixed 0x01 1 _) (λ e h. texts 2 Text h) (fixed 0x03 0 _) (fixed 0x05 0 _) (fixed 0x06 0 _) (fixed 0x08 0 _) (fixed 0x0A 0 _) (fixed 0x0B 10 _) (λ e h. texts 4 LongText h)
 
+pub read_inside : (s : List ℕ) (at : ℕ) (r : Read) → read_at s at ≡ Some r → at < length s
+read_inside s at = read_cases s at (λ (o : Option Read). (r : Read) → o ≡ Some r → at < length s) (λ r e. cc) (λ v n h r e. omega arith)
+
 -- every extent is one of these
 pub extent_cases : (s : List ℕ) (at : ℕ) (P : Result Extent BodyError → Type 0) → P (Err NotAmf0) → ((n : ℕ) → Past s at n → P (Ok (Ends n))) → ((p : ℕ) → Past s at p → P (Ok (Pairs p)))
     → ((p : ℕ) → Past s at p → P (Ok (CountedPairs p))) → ((p : ℕ) → Past s at p → P (Ok (Values p))) → P (extent_at s at)
