@@ -101,7 +101,7 @@ fn read_marked(body: &[u8], p: usize, m: u8) -> Option<Read>
 }
 
 // What stands at a place: a value, or none where the body has ended, the marker is unknown or the value is cut.
-#[tactic(auto, unfolding(crate::specs::Reading::read_at))]
+#[tactic(auto, using(crate::proofs::ReadingLaws::past_in), unfolding(crate::specs::Reading::read_at))]
 pub fn read_value(body: &[u8], at: usize) -> Option<Read>
     ensures { result ≡ read_at body.now at }
 {
@@ -130,7 +130,7 @@ pub fn extent_at(body: &[u8], at: usize) -> Result<Extent, BodyError>
 }
 
 // A property's name at i, or the end mark. Every name is read here.
-#[tactic(auto, unfolding(crate::specs::Reading::name_at))]
+#[tactic(auto, using(crate::proofs::ReadingLaws::past_in), unfolding(crate::specs::Reading::name_at))]
 pub fn read_name(body: &[u8], i: usize) -> Result<NameAt, BodyError>
     ensures { result ≡ name_at body.now i }
 {
