@@ -50,7 +50,7 @@ module _ (s : List ℕ) (i : ℕ) (so : verdict (row s i) ≡ checked s) where
   check_end h = ap verdict (row_end s i h) ∙ so
 
 -- ---- the cursor: the (n + 1)-th value begins after the n-th
-pub place_next : (s : List ℕ) (n : ℕ) → place_of s (n + 1) ≡ place_after s (place_of s n)
+pub place_next : (s : List ℕ) (n : ℕ) → place_of s (suc n) ≡ place_after s (place_of s n)
 unfolding place_of place_after
 place_next s n = ap (λ (x : Skip). result_unwrap_or x (length s)) (values_snoc (skip_v s 8) n 0) ∙ go (values_f (skip_v s 8) n 0)
   where

@@ -7,7 +7,7 @@ use mathlib.Core.List.{List}
 use lib.ListN.{length, get_or}
 use Rattle.std.specs.Prelude.{Option, Some, None, IfOk, Result, Ok, Err}
 use Rattle.numbers.specs.Fields.{field_at}
-use Rattle.amf0.specs.Reading.{extent, extent_at, extent_of, name_at, past, read_at, within}
+use Rattle.amf0.specs.Reading.{extent, extent_at, name_at, past, reach, read_at, within}
 use Rattle.amf0.specs.Skipping.{Skip, after_name, after_value, opened, pairs, pairs_f, shut, skip_v, values_f}
 use Rattle.amf0.specs.declared.error.BodyError.{BodyError}
 use Rattle.amf0.specs.declared.error.BodyError.TheVariants.{NotAmf0, TooDeep}
@@ -44,7 +44,7 @@ read_inside s at = read_cases s at (λ (o : Option Read). (r : Read) → o ≡ S
 pub extent_cases : (s : List ℕ) (at : ℕ) (P : Result Extent BodyError → Type 0) → P (Err NotAmf0) → ((n : ℕ) → Past s at n → P (Ok (Ends n))) → ((p : ℕ) → Past s at p → P (Ok (Pairs p)))
     → ((p : ℕ) → Past s at p → P (Ok (CountedPairs p))) → ((p : ℕ) → Past s at p → P (Ok (Values p))) → P (extent_at s at)
 unfolding extent_at
-extent_cases s at P wrong ends prs counted values = read_cases s at (λ (r : Option Read). P (extent_of r)) wrong go
+extent_cases s at P wrong ends prs counted values = read_cases s at (λ (r : Option Read). P (reach r)) wrong go
   where
     go : (v : Amf0Value) (n : ℕ) → Past s at n → P (Ok (extent v n))
     go (Object p) n h = prs n h

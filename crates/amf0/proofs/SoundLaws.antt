@@ -11,7 +11,7 @@ use Rattle.numbers.specs.Fields.{bytes_of, field_at}
 use Rattle.numbers.proofs.FieldsLaws.{length_bytes_of}
 use Rattle.numbers.proofs.PlaceLaws.{Bytes, cut_byte, cut_field, cut_text, field_lt, rest_at}
 use Rattle.amf0.specs.Grammar.{Properties, Row, Spells, SpellsProperties, SpellsRow, Value, array, boolean, count, counted, date, depth, depth_in, depth_of, done, long, none, null, number, object, property, strict, string, undefined, value}
-use Rattle.amf0.specs.Reading.{extent, extent_at, extent_of}
+use Rattle.amf0.specs.Reading.{extent, extent_at, reach}
 use Rattle.amf0.specs.Skipping.{Skip, after_name, opened, pairs, pairs_f, shut, skip_v, values_f}
 use Rattle.amf0.specs.declared.error.BodyError.{BodyError}
 use Rattle.amf0.specs.declared.error.BodyError.TheVariants.{NotAmf0}
@@ -139,7 +139,7 @@ module _ (s : List ℕ) (small : Bytes s) where
         → (get_or s at 0 ≡ 0x0A → at < length s → Good (Ok (Values (at + 1 + 0)))) → Good (extent_at s at)
     unfolding extent_at Spells depth
     by_kind obj ecm str =
-        read_kinds s at (λ (r : Option Read). Good (extent_of r)) (subst (Lands (Stands s left at)) wrong tt)
+        read_kinds s at (λ (r : Option Read). Good (reach r)) (subst (Lands (Stands s left at)) wrong tt)
         (λ e h. end_good (at + 1 + 8)
         (leaf left at 0x00 e (number (field_at 8 s (at + 1))) (bytes_of 8 (field_at 8 s (at + 1))) 8 refl (field_lt s small 8 (at + 1), refl) (omega arith) (cut_field s small 8 (at + 1) h) (length_bytes_of 8 (field_at 8 s (at + 1)))))
         (λ e h. end_good (at + 1 + 1)

@@ -67,5 +67,5 @@ pub answers_are : answers
       places = 18 ∷ 80 ∷ 89 ∷ 89 ∷ [];
       found = Some 12 ∷ Some 8 ∷ None ∷ None ∷ [];
     }
-unfolding answers each twice nested checked place_of row_f last_property last last_f pair_at better same skip_v pairs_f values_f extent_at read_at by_marker held past text_at name_at field_at encode size count bytes_of
+unfolding answers each twice nested checked place_of row_f last_property last last_f pair_at better same skip_v pairs_f values_f extent_at read_at by_marker past name_at field_at encode size count bytes_of
 answers_are = refl
