@@ -169,17 +169,21 @@ values_snoc f k i = values_more f 1 k i ∙ go (values_f f k i)
 
 -- ---- the steps of a function that skips pairs from `at` on, and stands at i
 module _ (s : List ℕ) (left i at : ℕ) (so : pairs (skip_v s left) s i ≡ pairs (skip_v s left) s at) where
-  pub pairs_by : (x : Result NameAt BodyError) → name_at s i ≡ x → after_name x (skip_v s left) (pairs (skip_v s left) s) ≡ pairs (skip_v s left) s at
+  pairs_by : (x : Result NameAt BodyError) → name_at s i ≡ x → after_name x (skip_v s left) (pairs (skip_v s left) s) ≡ pairs (skip_v s left) s at
   pairs_by x e = sym (ap (λ (y : Result NameAt BodyError). after_name y (skip_v s left) (pairs (skip_v s left) s)) e) ∙ sym (pairs_step s (skip_v s left) (moves s left) i) ∙ so
 
   pub pairs_cut : (b : BodyError) → name_at s i ≡ Err b → Err b ≡ pairs (skip_v s left) s at
   pairs_cut b e = pairs_by (Err b) e
 
-  pub pairs_value : (v : ℕ) (r : Skip) → name_at s i ≡ Ok (Value v) → skip_v s left v ≡ r → after_value r (pairs (skip_v s left) s) ≡ pairs (skip_v s left) s at
-  pairs_value v r e k = ap (λ (y : Skip). after_value y (pairs (skip_v s left) s)) (sym k) ∙ pairs_by (Ok (Value v)) e
+  pub pairs_end : (n : ℕ) → name_at s i ≡ Ok (End n) → Ok n ≡ pairs (skip_v s left) s at
+  pairs_end n e = pairs_by (Ok (End n)) e
 
-  pub pairs_fault : (v : ℕ) (b : BodyError) → name_at s i ≡ Ok (Value v) → skip_v s left v ≡ Err b → Err b ≡ pairs (skip_v s left) s at
-  pairs_fault v b e k = pairs_value v (Err b) e k
+  module _ (v : ℕ) (e : name_at s i ≡ Ok (Value v)) where
+    pub pairs_fault : (b : BodyError) → skip_v s left v ≡ Err b → Err b ≡ pairs (skip_v s left) s at
+    pairs_fault b k = ap (λ (y : Skip). after_value y (pairs (skip_v s left) s)) (sym k) ∙ pairs_by (Ok (Value v)) e
+
+    pub pairs_next : (a : ℕ) → skip_v s left v ≡ Ok a → pairs (skip_v s left) s a ≡ pairs (skip_v s left) s at
+    pairs_next a k = ap (λ (y : Skip). after_value y (pairs (skip_v s left) s)) (sym k) ∙ pairs_by (Ok (Value v)) e
 
 -- ---- the steps of a function that skips count values from `at` on, of which k are skipped, up to i
 module _ (s : List ℕ) (left k count at : ℕ) where
@@ -227,3 +231,6 @@ skip_wrong s (suc l) at b e = sym (ap (opened (skip_v s l) s) e)
 -- past the body's end stands no value
 pub skip_past : (s : List ℕ) (left at : ℕ) → length s ≤ at → Err NotAmf0 ≡ skip_v s left at
 skip_past s left at h = skip_wrong s left at NotAmf0 (sym (extent_read s at None (read_end s at h)))
+
+-- what the three functions that skip cite
+pub ruleset skips = (next_name, pairs_cut, pairs_end, pairs_fault, pairs_next, values_on, values_fault, skip_open, skip_deep, skip_ends, skip_wrong)
