@@ -12,7 +12,7 @@ use Rattle.numbers.specs.Choose.{pick}
 use Rattle.amf0.specs.Bodies.{checked, place_after, place_of, row, row_f, verdict}
 use Rattle.amf0.specs.Skipping.{Skip, after_value, skip_v, values_f}
 use Rattle.amf0.specs.declared.error.BodyError.{BodyError}
-use Rattle.amf0.proofs.SkippingLaws.{Moves, Past, after_same, moves, skip_past, values_snoc}
+use Rattle.amf0.proofs.SkippingLaws.{Moves, Past, after_same, moves, next_value, skip_past, values_snoc}
 
 module _ (s : List ℕ) (f : ℕ → Skip) (m : Moves s f) where
   row_at_end : (k i : ℕ) → length s ≤ i → Ok i ≡ row_f f s k i
@@ -49,10 +49,13 @@ module _ (s : List ℕ) (i : ℕ) (so : verdict (row s i) ≡ checked s) where
   pub check_end : length s ≤ i → Ok tt ≡ checked s
   check_end h = ap verdict (row_end s i h) ∙ so
 
+-- what `check_body` cites
+pub ruleset checks = (next_value, check_on, check_fault, check_end)
+
 -- ---- the cursor: the (n + 1)-th value begins after the n-th
 pub place_next : (s : List ℕ) (n : ℕ) → place_of s (suc n) ≡ place_after s (place_of s n)
 unfolding place_of place_after
-place_next s n = ap (λ (x : Skip). result_unwrap_or x (length s)) (values_snoc (skip_v s 8) n 0) ∙ go (values_f (skip_v s 8) n 0)
+place_next s n = let z : suc n ≡ n + 1 = omega arith in ap (place_of s) z ∙ ap (λ (x : Skip). result_unwrap_or x (length s)) (values_snoc (skip_v s 8) n 0) ∙ go (values_f (skip_v s 8) n 0)
   where
     past : result_unwrap_or (skip_v s 8 (length s)) (length s) ≡ length s
     past = ap (λ (x : Skip). result_unwrap_or x (length s)) (sym (skip_past s 8 (length s) (omega arith)))

@@ -50,26 +50,29 @@ module _ (s : List ℕ) (f : ℕ → Skip) (m : Moves s f) where
 pub pair_past : (s : List ℕ) (i v a : ℕ) → pair_at (skip_v s 8) s i ≡ Some (v, a) → Paired s i v a
 pair_past s i = pair_cases s (skip_v s 8) (moves s 8) i (λ (x : Option (ℕ × ℕ)). (v a : ℕ) → x ≡ Some (v, a) → Paired s i v a) (λ v a e. cc) (λ v a p w b e. let q : ◌≡◌ {A = ℕ × ℕ} (v, a) (w, b) = cc in omega (arith, ap (λ (x : ℕ × ℕ). x.0) q, ap (λ (x : ℕ × ℕ). x.1) q))
 
--- ---- the function stands at i with `best`, and what is left gives the answer
-module _ (s w : List ℕ) (i : ℕ) (best r : Option ℕ) (so : last s w i best ≡ r) where
-  last_by : (x : Option (ℕ × ℕ)) → pair_at (skip_v s 8) s i ≡ x → on_pair x (λ v a. last s w a (better s w i v best)) best ≡ r
+-- ---- the function began at `at` with `first` and stands at i with `best`, and what is left gives the answer
+module _ (s w : List ℕ) (i at : ℕ) (best first : Option ℕ) (so : last s w i best ≡ last s w at first) where
+  last_by : (x : Option (ℕ × ℕ)) → pair_at (skip_v s 8) s i ≡ x → on_pair x (λ v a. last s w a (better s w i v best)) best ≡ last s w at first
   unfolding last last_f
   last_by x e =
       ap (λ (y : Option (ℕ × ℕ)). on_pair y (λ v a. last s w a (better s w i v best)) best) (sym e)
       ∙ sym (same_count s (skip_v s 8) (moves s 8) w (length s) (suc (length s)) i best (omega arith) (omega arith))
       ∙ so
 
-  pub last_end : pair_at (skip_v s 8) s i ≡ None → best ≡ r
+  pub last_end : pair_at (skip_v s 8) s i ≡ None → best ≡ last s w at first
   last_end e = last_by None e
 
-  pub last_pair : (v a : ℕ) → pair_at (skip_v s 8) s i ≡ Some (v, a) → last s w a (better s w i v best) ≡ r
-  last_pair v a e = last_by (Some (v, a)) e
-
   module _ (v a : ℕ) (e : pair_at (skip_v s 8) s i ≡ Some (v, a)) where
-    pub last_named : same (take (v - (i + 2)) (drop (i + 2) s)) w ≡ true → last s w a (Some v) ≡ r
-    unfolding better
-    last_named q = simp q at (last_pair v a e)
+    pub last_pair : last s w a (better s w i v best) ≡ last s w at first
+    last_pair = last_by (Some (v, a)) e
 
-    pub last_other : same (take (v - (i + 2)) (drop (i + 2) s)) w ≡ false → last s w a best ≡ r
+    pub last_named : same (take (v - (i + 2)) (drop (i + 2) s)) w ≡ true → last s w a (Some v) ≡ last s w at first
     unfolding better
-    last_other q = simp q at (last_pair v a e)
+    last_named q = simp q at last_pair
+
+    pub last_other : same (take (v - (i + 2)) (drop (i + 2) s)) w ≡ false → last s w a best ≡ last s w at first
+    unfolding better
+    last_other q = simp q at last_pair
+
+-- what `last_pair` cites
+pub ruleset lasts = (pair_past, last_end, last_named, last_other)

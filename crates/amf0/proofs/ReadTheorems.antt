@@ -135,7 +135,7 @@ found_or s p v best m false i j = j
 last_in : (ps : Properties) (s r c w : List ℕ) (at : ℕ) (best : Option ℕ) (m : Option Value) → SpellsProperties ps c → depth_in ps ≤ 8 → drop at s ≡ c ++ r → Finds s best m → Finds s (last s w at best) (last_of w ps m)
 unfolding SpellsProperties depth_in last_of better pair_at
 last_in none s r c w at best m q d e i =
-    subst (λ (x : Option ℕ). Finds s x m) (last_end s w at best (last s w at best) refl (ap (pair_of (skip_v s 8)) (none_is s r 8 at (e ∙ ap (λ (y : List ℕ). y ++ r) q)))) i
+    subst (λ (x : Option ℕ). Finds s x m) (last_end s w at at best best refl (ap (pair_of (skip_v s 8)) (none_is s r 8 at (e ∙ ap (λ (y : List ℕ). y ++ r) q)))) i
 last_in (property t v ps) s r c w at best m (z, (h, (f, (p, (g, (k, q)))))) d e i =
     let a : ℕ = at + 2 + length t in
     let n : drop at s ≡ (counted 2 t ++ (f ++ g)) ++ r = e ∙ ap (λ (y : List ℕ). y ++ r) q in
@@ -146,7 +146,7 @@ last_in (property t v ps) s r c w at best m (z, (h, (f, (p, (g, (k, q)))))) d e 
     ap (pair_of (skip_v s 8)) (name_is s r 8 at t f g n z h) ∙ ap (λ (x : Skip). option_map (λ next. (a, next)) (result_ok x)) (complete v s (g ++ r) f 8 a p (omega arith) here) in
     let o : b ≡ better s w at a best = ap (λ (y : List ℕ). pick (same y w) (Some a) best) (sym (name_text s r 8 at t f g n)) in
     subst (λ (x : Option ℕ). Finds s x (last_of w ps (pick (same t w) (Some v) m)))
-    (ap (last s w (a + length f)) o ∙ last_pair s w at best (last s w at best) refl a (a + length f) pair)
+    (ap (last s w (a + length f)) o ∙ last_pair s w at at best best refl a (a + length f) pair)
     (last_in ps s r g w (a + length f) b (pick (same t w) (Some v) m) k (omega arith) (pairs_at s r 8 at t f g n) j)
 
 pub last_stands : (ps : Properties) (s r b w : List ℕ) (at : ℕ) → Spells (object ps) b → depth_in ps ≤ 8 → drop at s ≡ b ++ r → Finds s (last_property s at w) (last_of w ps None)

@@ -19,7 +19,7 @@ fn pair_at(body: &[u8], i: usize) -> Option<(usize, usize)>
 }
 
 // Among the pairs from `at` on: where the value of the last one of that name stands.
-#[tactic(auto, using(crate::proofs::PropertyLaws::pair_past))]
+#[tactic(auto, using(crate::proofs::PropertyLaws::lasts))]
 fn last_pair(body: &[u8], word: &[u8], at: usize) -> Option<usize>
     ensures { result ≡ last body.now word.now at None }
 {
