@@ -45,10 +45,11 @@ pub enum NameAt {
 }
 
 // The place behind the n bytes from p on, if they are in the body.
+#[tactic(auto, using(crate::proofs::ReadingLaws::past_yes, crate::proofs::ReadingLaws::past_no))]
 pub fn past(body: &[u8], p: usize, n: usize) -> Option<usize>
     ensures { result ≡ past body.now p n }
 {
-    if p <= body.len() && n <= body.len() - p {
+    if n <= body.len().checked_sub(p)? {
         return Some(p + n);
     }
     None
