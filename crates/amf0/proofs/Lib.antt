@@ -1,2 +1,11 @@
 pub mod ReadingLaws
 pub mod SkippingLaws
+pub mod BodiesLaws
+pub mod PropertyLaws
+pub mod CompleteLaws
+pub mod SoundLaws
+pub mod BodyTheorems
+pub mod ReadTheorems
+pub mod PlainLaws
+pub mod WriteTheorems
+pub mod DeepTheorems

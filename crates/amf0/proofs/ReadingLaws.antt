@@ -12,7 +12,7 @@ use Rattle.std.specs.Prelude.{Option, Some, None, option_map, option_and_then, R
 use Rattle.numbers.specs.Choose.{pick}
 use Rattle.numbers.specs.Fields.{field_at}
 use Rattle.numbers.proofs.ChooseLaws.{pick_eq, pick_le}
-use Rattle.amf0.specs.Reading.{by_marker, extent, extent_at, extent_of, held, name_at, past, read_at, text_at, within}
+use Rattle.amf0.specs.Reading.{by_marker, extent, extent_at, held, name_at, past, reach, read_at, text_at, within}
 use Rattle.amf0.specs.declared.error.BodyError.{BodyError}
 use Rattle.amf0.specs.declared.error.BodyError.TheVariants.{NotAmf0}
 use Rattle.amf0.specs.declared.value.Amf0Value.{Amf0Value}
@@ -39,35 +39,15 @@ module _ (s : List ℕ) (p n : ℕ) where
   pub past_in : (q : ℕ) → past s p n ≡ Some q → (q ≡ p + n) × (p + n ≤ length s)
   past_in = past_kinds (λ (x : Option ℕ). (q : ℕ) → x ≡ Some q → (q ≡ p + n) × (p + n ≤ length s)) (λ h q e. let z : q ≡ p + n = cc in (z, h)) (λ q e. cc)
 
+pub within_in : {X : Type 0} (s : List ℕ) (p n : ℕ) (f : ℕ → Result X BodyError) → p + n ≤ length s → within (past s p n) f ≡ f (p + n)
+within_in s p n f h = sym (ap (λ (o : Option ℕ). within o f) (past_yes s p n h))
+
 pub held_yes : (s : List ℕ) (p n : ℕ) (v : Amf0Value) → p + n ≤ length s → Some (record { value = v; next = p + n }) ≡ held s p n v
 held_yes s p n v h = ap (option_map (λ (q : ℕ). record { value = v; next = q })) (past_yes s p n h)
 
 -- ---- a text after a length of w bytes
 pub text_in : (w : ℕ) (made : ℕ → ℕ → Amf0Value) (s : List ℕ) (p : ℕ) → p + w ≤ length s → held s (p + w) (field_at w s p) (made (p + w) (field_at w s p)) ≡ text_at w made s p
 text_in w made s p h = ap (option_and_then (λ (q : ℕ). held s q (field_at w s p) (made q (field_at w s p)))) (past_yes s p w h)
-
--- ---- by the marker
-module _ (s : List ℕ) (p : ℕ) (r : Option Read) where
-  pub marked : (m k : ℕ) → r ≡ by_marker s p k → m ≡ k → r ≡ by_marker s p m
-  marked m k e q = e ∙ ap (by_marker s p) (sym q)
-
--- no marker of the list
-pub record Other (m : ℕ) : Type 0 where
-  pub n0 : m ≡ 0 → ⊥
-  pub n1 : m ≡ 1 → ⊥
-  pub n2 : m ≡ 2 → ⊥
-  pub n3 : m ≡ 3 → ⊥
-  pub n5 : m ≡ 5 → ⊥
-  pub n6 : m ≡ 6 → ⊥
-  pub n8 : m ≡ 8 → ⊥
-  pub n10 : m ≡ 10 → ⊥
-  pub n11 : m ≡ 11 → ⊥
-  pub n12 : m ≡ 12 → ⊥
-
-pub other_marker : (s : List ℕ) (p m : ℕ) → Other m → None ≡ by_marker s p m
-unfolding by_marker
-other_marker s p m o =
-    simp (ne_eqb m 0 o.n0, ne_eqb m 1 o.n1, ne_eqb m 2 o.n2, ne_eqb m 3 o.n3, ne_eqb m 5 o.n5, ne_eqb m 6 o.n6, ne_eqb m 8 o.n8, ne_eqb m 10 o.n10, ne_eqb m 11 o.n11, ne_eqb m 12 o.n12)
 
 -- ---- at a place
 module _ (s : List ℕ) (at : ℕ) where
@@ -79,9 +59,9 @@ module _ (s : List ℕ) (at : ℕ) where
   unfolding read_at
   read_end h = let k : length s < at + 1 = omega arith in ap (option_and_then (λ (p : ℕ). by_marker s p (get_or s at 0))) (past_no s at 1 k)
 
-  pub extent_read : (r : Option Read) → r ≡ read_at s at → extent_of r ≡ extent_at s at
+  pub extent_read : (r : Option Read) → r ≡ read_at s at → reach r ≡ extent_at s at
   unfolding extent_at
-  extent_read r e = ap extent_of e
+  extent_read r e = ap reach e
 
 -- ---- a name
 module _ (s : List ℕ) (i : ℕ) where

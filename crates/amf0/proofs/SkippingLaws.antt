@@ -7,7 +7,7 @@ use mathlib.Core.List.{List}
 use lib.ListN.{length, get_or}
 use Rattle.std.specs.Prelude.{Option, Some, None, IfOk, Result, Ok, Err}
 use Rattle.numbers.specs.Fields.{field_at}
-use Rattle.amf0.specs.Reading.{extent, extent_at, extent_of, name_at, past, read_at, within}
+use Rattle.amf0.specs.Reading.{extent, extent_at, name_at, past, reach, read_at, within}
 use Rattle.amf0.specs.Skipping.{Skip, after_name, after_value, opened, pairs, pairs_f, shut, skip_v, values_f}
 use Rattle.amf0.specs.declared.error.BodyError.{BodyError}
 use Rattle.amf0.specs.declared.error.BodyError.TheVariants.{NotAmf0, TooDeep}
@@ -37,11 +37,14 @@ read_cases s at P none some =
     = λ w made h. some (made (at + 1 + w) (field_at w s (at + 1))) (at + 1 + w + field_at w s (at + 1)) (omega arith) in
     read_kinds s at P none (fixed 0x00 8 _) (fixed 0x01 1 _) (λ e h. texts 2 Text h) (fixed 0x03 0 _) (fixed 0x05 0 _) (fixed 0x06 0 _) (fixed 0x08 0 _) (fixed 0x0A 0 _) (fixed 0x0B 10 _) (λ e h. texts 4 LongText h)
 
+pub read_inside : (s : List ℕ) (at : ℕ) (r : Read) → read_at s at ≡ Some r → at < length s
+read_inside s at = read_cases s at (λ (o : Option Read). (r : Read) → o ≡ Some r → at < length s) (λ r e. cc) (λ v n h r e. omega arith)
+
 -- every extent is one of these
 pub extent_cases : (s : List ℕ) (at : ℕ) (P : Result Extent BodyError → Type 0) → P (Err NotAmf0) → ((n : ℕ) → Past s at n → P (Ok (Ends n))) → ((p : ℕ) → Past s at p → P (Ok (Pairs p)))
     → ((p : ℕ) → Past s at p → P (Ok (CountedPairs p))) → ((p : ℕ) → Past s at p → P (Ok (Values p))) → P (extent_at s at)
 unfolding extent_at
-extent_cases s at P wrong ends prs counted values = read_cases s at (λ (r : Option Read). P (extent_of r)) wrong go
+extent_cases s at P wrong ends prs counted values = read_cases s at (λ (r : Option Read). P (reach r)) wrong go
   where
     go : (v : Amf0Value) (n : ℕ) → Past s at n → P (Ok (extent v n))
     go (Object p) n h = prs n h
@@ -166,17 +169,21 @@ values_snoc f k i = values_more f 1 k i ∙ go (values_f f k i)
 
 -- ---- the steps of a function that skips pairs from `at` on, and stands at i
 module _ (s : List ℕ) (left i at : ℕ) (so : pairs (skip_v s left) s i ≡ pairs (skip_v s left) s at) where
-  pub pairs_by : (x : Result NameAt BodyError) → name_at s i ≡ x → after_name x (skip_v s left) (pairs (skip_v s left) s) ≡ pairs (skip_v s left) s at
+  pairs_by : (x : Result NameAt BodyError) → name_at s i ≡ x → after_name x (skip_v s left) (pairs (skip_v s left) s) ≡ pairs (skip_v s left) s at
   pairs_by x e = sym (ap (λ (y : Result NameAt BodyError). after_name y (skip_v s left) (pairs (skip_v s left) s)) e) ∙ sym (pairs_step s (skip_v s left) (moves s left) i) ∙ so
 
   pub pairs_cut : (b : BodyError) → name_at s i ≡ Err b → Err b ≡ pairs (skip_v s left) s at
   pairs_cut b e = pairs_by (Err b) e
 
-  pub pairs_value : (v : ℕ) (r : Skip) → name_at s i ≡ Ok (Value v) → skip_v s left v ≡ r → after_value r (pairs (skip_v s left) s) ≡ pairs (skip_v s left) s at
-  pairs_value v r e k = ap (λ (y : Skip). after_value y (pairs (skip_v s left) s)) (sym k) ∙ pairs_by (Ok (Value v)) e
+  pub pairs_end : (n : ℕ) → name_at s i ≡ Ok (End n) → Ok n ≡ pairs (skip_v s left) s at
+  pairs_end n e = pairs_by (Ok (End n)) e
 
-  pub pairs_fault : (v : ℕ) (b : BodyError) → name_at s i ≡ Ok (Value v) → skip_v s left v ≡ Err b → Err b ≡ pairs (skip_v s left) s at
-  pairs_fault v b e k = pairs_value v (Err b) e k
+  module _ (v : ℕ) (e : name_at s i ≡ Ok (Value v)) where
+    pub pairs_fault : (b : BodyError) → skip_v s left v ≡ Err b → Err b ≡ pairs (skip_v s left) s at
+    pairs_fault b k = ap (λ (y : Skip). after_value y (pairs (skip_v s left) s)) (sym k) ∙ pairs_by (Ok (Value v)) e
+
+    pub pairs_next : (a : ℕ) → skip_v s left v ≡ Ok a → pairs (skip_v s left) s a ≡ pairs (skip_v s left) s at
+    pairs_next a k = ap (λ (y : Skip). after_value y (pairs (skip_v s left) s)) (sym k) ∙ pairs_by (Ok (Value v)) e
 
 -- ---- the steps of a function that skips count values from `at` on, of which k are skipped, up to i
 module _ (s : List ℕ) (left k count at : ℕ) where
@@ -224,3 +231,6 @@ skip_wrong s (suc l) at b e = sym (ap (opened (skip_v s l) s) e)
 -- past the body's end stands no value
 pub skip_past : (s : List ℕ) (left at : ℕ) → length s ≤ at → Err NotAmf0 ≡ skip_v s left at
 skip_past s left at h = skip_wrong s left at NotAmf0 (sym (extent_read s at None (read_end s at h)))
+
+-- what the three functions that skip cite
+pub ruleset skips = (next_name, pairs_cut, pairs_end, pairs_fault, pairs_next, values_on, values_fault, skip_open, skip_deep, skip_ends, skip_wrong)

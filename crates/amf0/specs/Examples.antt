@@ -4,7 +4,7 @@ use Rattle.numbers.specs.Fields.{bytes_of, field_at}
 use Rattle.text.specs.Words.{same, text}
 use Rattle.amf0.specs.Bodies.{checked, place_of, row_f}
 use Rattle.amf0.specs.Grammar.{Value, array, boolean, count, date, done, long, none, null, number, object, property, strict, string, undefined, value}
-use Rattle.amf0.specs.Properties.{better, last, last_f, last_property}
+use Rattle.amf0.specs.Properties.{better, last, last_f, last_property, pair_at}
 use Rattle.amf0.specs.Reading.{by_marker, extent_at, held, name_at, past, read_at, text_at}
 use Rattle.amf0.specs.Skipping.{pairs_f, skip_v, values_f}
 use Rattle.amf0.specs.Writing.{encode, encode_of, size}
@@ -67,5 +67,5 @@ pub answers_are : answers
       places = 18 ∷ 80 ∷ 89 ∷ 89 ∷ [];
       found = Some 12 ∷ Some 8 ∷ None ∷ None ∷ [];
     }
-unfolding answers each twice nested checked place_of row_f last_property last last_f better same skip_v pairs_f values_f extent_at read_at by_marker held past text_at name_at field_at encode size count bytes_of
+unfolding answers each twice nested checked place_of row_f last_property last last_f pair_at better same skip_v pairs_f values_f extent_at read_at by_marker past name_at field_at encode size count bytes_of
 answers_are = refl

@@ -1,5 +1,6 @@
 -- "If a name occurs twice, the last one alone counts, whatever its type."
-use Rattle.std.specs.Prelude.{ℕ, zero, suc, ◌+◌, ◌-◌, List, length, take, drop, Option, Some, None, Result, Ok, Err}
+use Rattle.std.specs.Prelude.{ℕ, zero, suc, ◌+◌, ◌-◌, List, length, take, drop, Option, Some, None, option_map, Result, Ok, Err}
+use Rattle.std.specs.Result.{result_ok}
 use Rattle.numbers.specs.Choose.{pick}
 use Rattle.text.specs.Words.{same}
 use Rattle.amf0.specs.Reading.{extent_at, name_at}
@@ -14,18 +15,23 @@ use Rattle.amf0.specs.declared.value.NameAt.TheVariants.{End, Value}
 unfoldable pub better : List ℕ → List ℕ → ℕ → ℕ → Option ℕ → Option ℕ
 better s w i v best = pick (same (take (v - (i + 2)) (drop (i + 2) s)) w) (Some v) best
 
-abbrev pub on_value : Skip → Option ℕ → (ℕ → Option ℕ → Option ℕ) → Option ℕ → Option ℕ
-on_value (Ok a) b go best = go a b
-on_value (Err e) b go best = best
+-- a name's value, and the place behind it; f skips a value
+abbrev pub pair_of : (ℕ → Skip) → Result NameAt BodyError → Option (ℕ × ℕ)
+pair_of f (Ok (Value v)) = option_map (λ next. (v, next)) (result_ok (f v))
+pair_of f x = None
 
-abbrev pub on_name : Result NameAt BodyError → (ℕ → Skip) → (ℕ → Option ℕ) → (ℕ → Option ℕ → Option ℕ) → Option ℕ → Option ℕ
-on_name (Ok (Value v)) f b go best = on_value (f v) (b v) go best
-on_name x f b go best = best
+-- the pair that begins at i, if a whole one does
+unfoldable pub pair_at : (ℕ → Skip) → List ℕ → ℕ → Option (ℕ × ℕ)
+pair_at f s i = pair_of f (name_at s i)
+
+abbrev pub on_pair : Option (ℕ × ℕ) → (ℕ → ℕ → Option ℕ) → Option ℕ → Option ℕ
+on_pair (Some p) go best = go p.0 p.1
+on_pair None go best = best
 
 -- among at most k pairs from i on, where `best` was found before them
 unfoldable pub last_f : (ℕ → Skip) → List ℕ → List ℕ → ℕ → ℕ → Option ℕ → Option ℕ
 last_f f s w zero i best = best
-last_f f s w (suc k) i best = on_name (name_at s i) f (λ v. better s w i v best) (last_f f s w k) best
+last_f f s w (suc k) i best = on_pair (pair_at f s i) (λ v next. last_f f s w k next (better s w i v best)) best
 
 unfoldable pub last : List ℕ → List ℕ → ℕ → Option ℕ → Option ℕ
 last s w i best = last_f (skip_v s 8) s w (length s) i best

@@ -57,12 +57,13 @@ extent (EcmaArray p) next = CountedPairs next
 extent (StrictArray p) next = Values next
 extent v next = Ends next
 
-abbrev pub extent_of : Option Read → Result Extent BodyError
-extent_of (Some r) = Ok (extent r.value r.next)
-extent_of None = Err NotAmf0
+-- nothing read is not AMF0
+abbrev pub reach : Option Read → Result Extent BodyError
+reach (Some r) = Ok (extent r.value r.next)
+reach None = Err NotAmf0
 
 unfoldable pub extent_at : List ℕ → ℕ → Result Extent BodyError
-extent_at s at = extent_of (read_at s at)
+extent_at s at = reach (read_at s at)
 
 -- a name of two bytes of length and its bytes, or the end mark: "as is an empty property name not followed by 09"
 unfoldable pub name_at : List ℕ → ℕ → Result NameAt BodyError

@@ -5,6 +5,7 @@ ghost use Rattle.amf0.specs.Bodies.{checked, place_of};
 use crate::error::BodyError;
 use crate::skip::{NESTED, skip_value, skip_values};
 
+#[tactic(auto, using(crate::proofs::BodiesLaws::checks), unfolding(crate::specs::Bodies::checked))]
 pub fn check_body(body: &[u8]) -> Result<(), BodyError>
     ensures { result ≡ checked body.now }
 {

@@ -27,7 +27,7 @@ fn plain_of(value: Amf0Value, bits: u64) -> Plain
     }
 }
 
-#[tactic(auto, unfolding(crate::specs::Plain::plain_at))]
+#[tactic(auto, using(crate::proofs::SkippingLaws::read_inside), unfolding(crate::specs::Plain::plain_at))]
 pub fn plain_at(body: &[u8], at: usize) -> Option<Plain>
     ensures { result ≡ plain_at body.now at }
 {

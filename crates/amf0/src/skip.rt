@@ -1,4 +1,5 @@
 // Where a value ends: containers are gone through, at most `left` deep.
+#![tactic(auto, using(crate::proofs::SkippingLaws::skips), unfolding(crate::specs::Skipping::values_f))]
 ghost use Rattle.std.specs.Prelude.{◌≡◌};
 ghost use Rattle.amf0.specs.Skipping.{pairs, skip_v, values_f};
 
@@ -36,6 +37,7 @@ pub fn skip_values(body: &[u8], at: usize, count: usize, left: usize) -> Result<
 }
 
 // Behind the value at `at`, in which containers may nest `left` deep. A container that may not is too deep, cut or not.
+#[tactic(auto, using(crate::proofs::SkippingLaws::skips), unfolding(crate::specs::Skipping::skip_v))]
 #[cycle(skip)]
 pub fn skip_value(body: &[u8], at: usize, left: usize) -> Result<usize, BodyError>
     ensures { result ≡ skip_v body.now left at }

@@ -45,10 +45,11 @@ pub enum NameAt {
 }
 
 // The place behind the n bytes from p on, if they are in the body.
+#[tactic(auto, using(crate::proofs::ReadingLaws::past_yes, crate::proofs::ReadingLaws::past_no))]
 pub fn past(body: &[u8], p: usize, n: usize) -> Option<usize>
     ensures { result ≡ past body.now p n }
 {
-    if p <= body.len() && n <= body.len() - p {
+    if n <= body.len().checked_sub(p)? {
         return Some(p + n);
     }
     None
@@ -101,7 +102,7 @@ fn read_marked(body: &[u8], p: usize, m: u8) -> Option<Read>
 }
 
 // What stands at a place: a value, or none where the body has ended, the marker is unknown or the value is cut.
-#[tactic(auto, unfolding(crate::specs::Reading::read_at))]
+#[tactic(auto, using(crate::proofs::ReadingLaws::past_in), unfolding(crate::specs::Reading::read_at))]
 pub fn read_value(body: &[u8], at: usize) -> Option<Read>
     ensures { result ≡ read_at body.now at }
 {
@@ -130,7 +131,7 @@ pub fn extent_at(body: &[u8], at: usize) -> Result<Extent, BodyError>
 }
 
 // A property's name at i, or the end mark. Every name is read here.
-#[tactic(auto, unfolding(crate::specs::Reading::name_at))]
+#[tactic(auto, using(crate::proofs::ReadingLaws::past_in), unfolding(crate::specs::Reading::name_at))]
 pub fn read_name(body: &[u8], i: usize) -> Result<NameAt, BodyError>
     ensures { result ≡ name_at body.now i }
 {

@@ -1,5 +1,6 @@
 // Values written into a lent buffer from `at` on. Bytes past what is written stay. A string's length is two bytes, so
 // every writer of one asks for less than 65,536 bytes; names are at most 128 and texts at most 256 and a name.
+#![tactic(auto, unfolding(crate::specs::Writing::encode, numbers::specs::Fields::bytes_of))]
 ghost use Rattle.std.specs.Prelude.{◌≡◌, [], ◌∷◌, ◌+◌, ◌≤◌, ◌<◌, length};
 ghost use Rattle.numbers.specs.Fields.{over};
 ghost use Rattle.amf0.specs.Grammar.{boolean, counted, none, null, number, string};
@@ -17,7 +18,6 @@ pub fn write_number_at(out: &mut [u8], at: usize, bits: u64)
 }
 
 // A boolean: two bytes.
-#[tactic(auto, unfolding(crate::specs::Writing::encode, numbers::specs::Fields::bytes_of))]
 pub fn write_boolean_at(out: &mut [u8], at: usize, b: bool)
     requires { at + 2 ≤ length out.old }
     ensures { out.new ≡ over at (encode (boolean b)) out.old }
@@ -26,7 +26,6 @@ pub fn write_boolean_at(out: &mut [u8], at: usize, b: bool)
 }
 
 // A null: one byte.
-#[tactic(auto, unfolding(crate::specs::Writing::encode, numbers::specs::Fields::bytes_of))]
 pub fn write_null_at(out: &mut [u8], at: usize)
     requires { at + 1 ≤ length out.old }
     ensures { out.new ≡ over at (encode null) out.old }
@@ -53,7 +52,6 @@ pub fn write_string_at(out: &mut [u8], at: usize, text: &[u8])
 }
 
 // The beginning of an object, before its first name: one byte.
-#[tactic(auto, unfolding(crate::specs::Writing::encode, numbers::specs::Fields::bytes_of))]
 pub fn write_object_begin_at(out: &mut [u8], at: usize)
     requires { at + 1 ≤ length out.old }
     ensures { out.new ≡ over at (0x03 ∷ []) out.old }
@@ -62,7 +60,6 @@ pub fn write_object_begin_at(out: &mut [u8], at: usize)
 }
 
 // The end of an object, after its last value: three bytes.
-#[tactic(auto, unfolding(crate::specs::Writing::encode, numbers::specs::Fields::bytes_of))]
 pub fn write_object_end_at(out: &mut [u8], at: usize)
     requires { at + 3 ≤ length out.old }
     ensures { out.new ≡ over at (encode_in none) out.old }
