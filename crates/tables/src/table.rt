@@ -82,14 +82,12 @@ fn rises<E: Entry>(entries: &[E], next: u32) -> bool
     ensures { result ≡ rises_from E.number E.name next 0 entries.now }
 {
     let mut low: u64 = 0;
-    let mut rest = entries;
-    while let Some((e, later)) = rest.split_first() {
+    for e in entries {
         let number = e.number();
         if (number as u64) < low || next <= number || 128 < e.name().len {
             return false;
         }
         low = number as u64 + 1;
-        rest = later;
     }
     true
 }
