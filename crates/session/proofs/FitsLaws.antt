@@ -1,8 +1,8 @@
 -- A change that fits a session: what it adds is new and short, what it takes away is there.
-use mathlib.Core.Path.{◌≡◌, refl, ap, ◌∙◌}
-use Prim.Native.Nat.{ℕ, ◌≤◌, ◌<◌}
+use mathlib.Core.Path.{◌≡◌, ap, ◌∙◌}
+use Prim.Native.Nat.{◌≤◌, ◌<◌}
 use mathlib.Core.Bool.{Bool, true, false}
-use Rattle.std.specs.Prelude.{Option, Some}
+use Rattle.std.specs.Prelude.{Some}
 use lib.ListN.{take}
 use Rattle.numbers.specs.Choose.{pick}
 use Rattle.text.specs.declared.ids.RequestId.{RequestId}

@@ -71,5 +71,9 @@ pub fn session_sound(session: Session) -> bool
     session.version.len <= 128
         && app_fits(session.has_app, session.app.len)
         && is_sound(&session.streams, session.stream_count, session.next_stream)
-        && is_sound(&session.requests, session.request_count, session.next_request)
+        && is_sound(
+            &session.requests,
+            session.request_count,
+            session.next_request,
+        )
 }
