@@ -1,5 +1,5 @@
 -- Laws of tables, over any type of entry and any number of places: a search, a change, a removal.
-use mathlib.Core.Path.{◌≡◌, refl, sym, ap, ◌∙◌, subst}
+use mathlib.Core.Path.{◌≡◌, refl, sym, ap, ◌∙◌}
 use mathlib.Core.Logic.{inl, inr}
 use Prim.Native.Nat.{ℕ, suc, ◌+◌, ◌-◌, ◌≤◌, ◌<◌, min}
 use native.Mathlib.Numerals.{add-one}
@@ -10,7 +10,6 @@ use lib.Dec.{eqb, ltb}
 use Rattle.std.specs.Prelude.{Option, Some, None, position}
 use Rattle.std.specs.List.{copy_within, list_any}
 use Rattle.std.proofs.lemmas.List.{drop-take}
-use Rattle.std.proofs.lemmas.List.Edits.{drop-paste, take-paste}
 use Rattle.std.proofs.lemmas.List.Quantifiers.{position-Some}
 use Rattle.std.proofs.lemmas.List.Sums.{fails_before_first}
 use Rattle.numbers.specs.Choose.{pick}
@@ -114,20 +113,26 @@ module _ {A : Type 0} (number : A → ℕ) where
   abbrev pub Stands : ℕ → ℕ → List A → A → ℕ → Type 0
   Stands id n l d p = (p < n) × ((look number id (take p l) ≡ None) × (number (get_or l p d) ≡ id))
 
-  module _ (l : List A) (c id : ℕ) (d : A) where
-    pub stands : (p : ℕ) → position (λ x. eqb (number x) id) (take c l) ≡ Some p → Stands id (min c (length l)) l d p
+  module _ (l : List A) (c id : ℕ) (d : A) (m : ℕ) (q : m ≡ id) (r : Option ℕ) (so : r ≡ position (λ x. eqb (number x) m) (take c l)) where
+    abbrev test : A → Bool
+    test x = eqb (number x) id
+
+    found : position test (take c l) ≡ r
+    found = ap (λ (k : ℕ). position (λ x. eqb (number x) k) (take c l)) (sym q) ∙ sym so
+
+    pub stands : (p : ℕ) → r ≡ Some p → Stands id (min c (length l)) l d p
     stands p e =
-        let s = position-Some (λ x. eqb (number x) id) (take c l) p d e in
+        let s = position-Some test (take c l) p d (found ∙ e) in
         let h : p < min c (length l) = omega (arith, s.0, length-take c l) in
         let t : take p (take c l) ≡ take p l = take-take p c l (omega arith) in
         let none : look number id (take p (take c l)) ≡ None =
-        none_of id d (take p (take c l)) (λ k g. let z : k < p = omega (arith, g, length-take p (take c l)) in ap (λ (x : A). eqb (number x) id) (get_or-take p (take c l) k d z) ∙ s.2 k z) in
+        none_of id d (take p (take c l)) (λ k g. let z : k < p = omega (arith, g, length-take p (take c l)) in ap test (get_or-take p (take c l) k d z) ∙ s.2 k z) in
         (h, (ap (look number id) (sym t) ∙ none, ap number (sym (get_or-take c l p d (omega arith))) ∙ eqb-true _ _ s.1))
 
-    pub missing : position (λ x. eqb (number x) id) (take c l) ≡ None → look number id (take (min c (length l)) l) ≡ None
+    pub missing : r ≡ None → look number id (take (min c (length l)) l) ≡ None
     missing e =
         ap (look number id) (take_in l c (min c (length l)) refl)
-        ∙ none_of id d (take c l) (λ k h. fails_before_first (λ x. eqb (number x) id) (take c l) k d (omega (arith, h, past_end _ _ e)))
+        ∙ none_of id d (take c l) (λ k h. fails_before_first test (take c l) k d (omega (arith, h, past_end _ _ (found ∙ e))))
 
   -- ---- a search that stands at i, and has found nothing yet
   pub seek_next : (l : List A) (id i : ℕ) (d : A) → i < length l → look number id (take i l) ≡ None → (number (get_or l i d) ≡ id → ⊥) → look number id (take (i + 1) l) ≡ None

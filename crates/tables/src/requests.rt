@@ -48,7 +48,7 @@ impl Entry for Request {
 
     ghost blank = { no_request };
 
-    fn number(self) -> u32 {
+    fn number(&self) -> u32 {
         self.id.0
     }
 
@@ -56,8 +56,8 @@ impl Entry for Request {
         id.0
     }
 
-    fn name_len(self) -> usize {
-        self.name.len
+    fn name(&self) -> &Name {
+        &self.name
     }
 
     fn blank() -> Request {

@@ -45,7 +45,7 @@ impl Entry for Stream {
 
     ghost blank = { no_stream };
 
-    fn number(self) -> u32 {
+    fn number(&self) -> u32 {
         self.id.0
     }
 
@@ -53,8 +53,8 @@ impl Entry for Stream {
         id.0
     }
 
-    fn name_len(self) -> usize {
-        self.key.len
+    fn name(&self) -> &Name {
+        &self.key
     }
 
     fn blank() -> Stream {

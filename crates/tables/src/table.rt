@@ -2,7 +2,9 @@
 ghost use Rattle.std.specs.Prelude.{◌≡◌, ℕ, eqb, position, set, take};
 ghost use Rattle.std.specs.List.{list_any};
 ghost use Rattle.text.specs.declared.names.Name.{Name};
-ghost use Rattle.tables.specs.Tables.{changed, has, look, removed, rises_from, sound, table_sound};
+ghost use Rattle.tables.specs.Tables.{changed, look, removed, rises_from, sound, table_sound};
+
+use text::Name;
 
 // What a table asks of its entries: a number under which each is found, a name, and what stands in a place not in use.
 pub trait Entry: Copy {
@@ -17,14 +19,14 @@ pub trait Entry: Copy {
 
     ghost blank: { Self };
 
-    fn number(self) -> u32
-        ensures { result ≡ number self };
+    fn number(&self) -> u32
+        ensures { result ≡ number self.now };
 
     fn number_of(id: Self::Id) -> u32
         ensures { result ≡ number_of id };
 
-    fn name_len(self) -> usize
-        ensures { result ≡ (name self).len };
+    fn name(&self) -> &Name
+        ensures { result.now ≡ name self.now };
 
     fn blank() -> Self
         ensures { result ≡ blank };
@@ -80,14 +82,12 @@ fn rises<E: Entry>(entries: &[E], next: u32) -> bool
     ensures { result ≡ rises_from E.number E.name next 0 entries.now }
 {
     let mut low: u64 = 0;
-    let mut rest = entries;
-    while let Some((e, later)) = rest.split_first() {
+    for e in entries {
         let number = e.number();
-        if (number as u64) < low || next <= number || 128 < e.name_len() {
+        if (number as u64) < low || next <= number || 128 < e.name().len {
             return false;
         }
         low = number as u64 + 1;
-        rest = later;
     }
     true
 }
@@ -106,7 +106,7 @@ fn apart<E: Entry>(entries: &[E], next: u32) -> bool
     let mut rest = entries;
     while let Some((e, later)) = rest.split_first() {
         let number = e.number();
-        if 128 < e.name_len() || next <= number || has(later, number) {
+        if 128 < e.name().len || next <= number || has(later, number) {
             return false;
         }
         rest = later;

@@ -7,12 +7,10 @@ pub returns-in_err-p : goal.returns-in_err-p
 returns-in_err-p g c =
     let a = c.args in
     let m = g.E.Entry in
-    let none = simp c.number_of.ensures at (sym c.place.ensures ∙ c.in_err-p.was) in
-    c.from_residual.ensures ∙ sym (look_missing m.number a.table.now a.count _ refl _ (missing m.number a.table.now a.count _ m.blank none))
+    c.from_residual.ensures ∙ sym (look_missing m.number a.table.now a.count _ refl _ (missing m.number a.table.now a.count _ m.blank _ c.number_of.ensures _ c.place.ensures c.in_err-p.was))
 
 pub returns : goal.returns
 returns g c =
     let a = c.args in
     let m = g.E.Entry in
-    let at = simp c.number_of.ensures at (sym c.place.ensures ∙ c.in_ok-p.was) in
-    ap Some c.index-table-p.is ∙ sym (look_at m.number a.table.now a.count _ refl _ _ _ (stands m.number a.table.now a.count _ c.index-table-p.result c.in_ok-p.p at))
+    ap Some c.index-table-p.is ∙ sym (look_at m.number a.table.now a.count _ refl _ _ _ (stands m.number a.table.now a.count _ c.index-table-p.result _ c.number_of.ensures _ c.place.ensures c.in_ok-p.p c.in_ok-p.was))
