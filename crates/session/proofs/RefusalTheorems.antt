@@ -2,15 +2,15 @@
 use mathlib.Core.Path.{◌≡◌}
 use mathlib.Core.Bool.{Bool, true, false}
 use Rattle.numbers.specs.Choose.{pick}
-use Rattle.wishes.specs.declared.outcome.Outcome.{Outcome}
-use Rattle.wishes.specs.declared.outcome.Outcome.TheVariants.{Done}
+use Rattle.std.specs.Prelude.{Ok}
+use Rattle.wishes.specs.declared.outcome.Refusal.{Refusal}
 use Rattle.session.specs.Decisions.{refusing}
 use Rattle.session.specs.declared.decision.Decision.{Decision}
 
 -- a decision is done, or it is a refusal that changes nothing
 pub data Fate (d : Decision) : Type 0 where
-  done : d.outcome ≡ Done → Fate d
-  kept : (o : Outcome) → d ≡ refusing o → Fate d
+  done : d.outcome ≡ Ok tt → Fate d
+  kept : (r : Refusal) → d ≡ refusing r → Fate d
 
 pub either : (b : Bool) (d e : Decision) → Fate d → Fate e → Fate (pick b d e)
 either true d e f g = f

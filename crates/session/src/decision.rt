@@ -4,14 +4,13 @@ ghost use Rattle.session.specs.Decisions.{nothing, quietly, raising, refusing, r
 
 use crate::changes::{Change, no_change};
 use metadata::{StreamMetadata, no_metadata};
-use numbers::{PlayDuration, PlayStartValue};
+use numbers::PlayStartValue;
 use text::{Name, PublishMode, RequestId, StreamId, empty_name};
-use wishes::Outcome;
+use wishes::{Outcome, Refusal};
 
 // The Rust's events. The app, the key and the metadata stand beside the event.
-#[derive(Clone, Copy)]
+#[derive(Clone, Copy, Debug, PartialEq, Eq)]
 pub enum Event {
-    NoEvent,
     ConnectionRequested(RequestId),
     PublishStreamRequested {
         request: RequestId,
@@ -20,7 +19,7 @@ pub enum Event {
     PlayStreamRequested {
         request: RequestId,
         start: PlayStartValue,
-        duration: PlayDuration,
+        duration: Option<u32>,
         reset: bool,
         stream: StreamId,
     },
@@ -49,7 +48,7 @@ pub enum CommandFault {
 }
 
 // What is to be written. A key or an app stands beside it.
-#[derive(Clone, Copy)]
+#[derive(Clone, Copy, Debug, PartialEq, Eq)]
 pub enum Reply {
     Nothing,
     StreamCreated {
@@ -78,7 +77,7 @@ pub enum Reply {
 #[derive(Clone, Copy)]
 pub struct Decision {
     pub outcome: Outcome,
-    pub event: Event,
+    pub event: Option<Event>,
     pub app: Name,
     pub key: Name,
     pub metadata: StreamMetadata,
@@ -92,8 +91,8 @@ pub fn quiet(change: Change) -> Decision
     ensures { result ≡ quietly change }
 {
     Decision {
-        outcome: Outcome::Done,
-        event: Event::NoEvent,
+        outcome: Ok(()),
+        event: None,
         app: empty_name(),
         key: empty_name(),
         metadata: no_metadata(),
@@ -110,19 +109,19 @@ pub fn nothing_done() -> Decision
 }
 
 // A refusal that changes something: 11 from an accept.
-pub fn refused_with(outcome: Outcome, change: Change) -> Decision
-    ensures { result ≡ refusing_with outcome change }
+pub fn refused_with(refusal: Refusal, change: Change) -> Decision
+    ensures { result ≡ refusing_with refusal change }
 {
     Decision {
-        outcome,
+        outcome: Err(refusal),
         ..quiet(change)
     }
 }
 
-pub fn refused(outcome: Outcome) -> Decision
-    ensures { result ≡ refusing outcome }
+pub fn refused(refusal: Refusal) -> Decision
+    ensures { result ≡ refusing refusal }
 {
-    refused_with(outcome, no_change())
+    refused_with(refusal, no_change())
 }
 
 pub fn replied(reply: Reply, name: Name, change: Change) -> Decision
@@ -145,7 +144,7 @@ pub fn raised(
     ensures { result ≡ raising event app key metadata change }
 {
     Decision {
-        event,
+        event: Some(event),
         app,
         key,
         metadata,

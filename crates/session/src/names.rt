@@ -3,20 +3,19 @@ ghost use Rattle.std.specs.Prelude.{◌≡◌};
 ghost use Rattle.session.specs.Names.{action_text, event_text, word_of};
 
 use crate::decision::Event;
-use text::{Name, read_name};
+use text::{Name, empty_name, read_name};
 use wishes::Action;
 
 fn word(part: &[u8]) -> Name
     ensures { result ≡ word_of part.now }
 {
-    read_name(part).name
+    read_name(part).unwrap_or(empty_name())
 }
 
 fn event_text(event: Event) -> &'static [u8]
     ensures { result.now ≡ event_text event }
 {
     match event {
-        Event::NoEvent => b"",
         Event::ConnectionRequested(_) => b"ConnectionRequested",
         Event::PublishStreamRequested { .. } => b"PublishStreamRequested",
         Event::PlayStreamRequested { .. } => b"PlayStreamRequested",
