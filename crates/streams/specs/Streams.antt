@@ -1,6 +1,6 @@
 -- createStream, closeStream, deleteStream, metadata, audio and video.
-use Rattle.std.specs.Prelude.{ℕ, Bool, eqb, leb}
-use Rattle.std.proofs.Math.Option.{Option, some, none}
+use Rattle.std.specs.Prelude.{ℕ, Option, Some, None, Result, Ok, Err, eqb, leb}
+use Rattle.std.specs.Option.{option_and_then}
 use Rattle.numbers.specs.Choose.{pick}
 use Rattle.text.specs.Names.{empty_name}
 use Rattle.text.specs.declared.ids.StreamId.{StreamId}
@@ -11,14 +11,15 @@ use Rattle.metadata.specs.declared.metadata.StreamMetadata.{StreamMetadata}
 use Rattle.tables.specs.declared.streams.Stream.{Stream}
 use Rattle.tables.specs.declared.streams.StreamState.{StreamState}
 use Rattle.tables.specs.declared.streams.StreamState.TheVariants.{Created, Publishing, Playing, Completed}
-use Rattle.wishes.specs.declared.outcome.Outcome.TheVariants.{NameTooLong, NumbersUsedUp, StreamsFull}
+use Rattle.metadata.specs.declared.reading.LongEncoder.{LongEncoder}
+use Rattle.wishes.specs.declared.outcome.Refusal.TheVariants.{NameTooLong, NumbersUsedUp, StreamsFull}
 use Rattle.session.specs.Changes.{making, no_change, removing, setting}
 use Rattle.session.specs.Decisions.{nothing, quietly, raising, refusing, replying}
 use Rattle.session.specs.State.{connected, stream_of}
 use Rattle.session.specs.declared.changes.Change.{Change}
 use Rattle.session.specs.declared.decision.Decision.{Decision}
 use Rattle.session.specs.declared.decision.Event.{Event}
-use Rattle.session.specs.declared.decision.Event.TheVariants.{NoEvent, PublishStreamFinished, PlayStreamFinished, StreamMetadataChanged}
+use Rattle.session.specs.declared.decision.Event.TheVariants.{PublishStreamFinished, PlayStreamFinished, StreamMetadataChanged}
 use Rattle.session.specs.declared.decision.Reply.TheVariants.{StreamCreated}
 use Rattle.session.specs.declared.desk.Desk.{Desk}
 use Rattle.session.specs.declared.session.Session.{Session}
@@ -40,8 +41,15 @@ create_stream d transaction =
     (replying (StreamCreated transaction (following_stream d)) empty_name (making (created (following_stream d)))))
 
 -- ---- what happens where a connected session has the stream, and nothing where not
+abbrev pub known : Desk → Option Stream
+known d = pick d.connected d.seen None
+
+abbrev pub on_known : Option Stream → (Stream → Decision) → Decision
+on_known (Some e) f = f e
+on_known None f = nothing
+
 unfoldable pub on_stream : Desk → (Stream → Decision) → Decision
-on_stream d f = pick d.connected (pick d.seen.found (f d.seen.stream) nothing) nothing
+on_stream d f = on_known (known d) f
 
 -- "Publishing or Playing raises PublishStreamFinished or PlayStreamFinished."
 abbrev pub ended : StreamState → Name → Name → Change → Decision
@@ -58,28 +66,25 @@ abbrev pub delete_stream : Desk → Decision
 delete_stream d = on_stream d (λ (e : Stream). ended e.state d.app e.key (removing e))
 
 -- "connected, stream Publishing: StreamMetadataChanged"; 6 only where the event would be raised
-abbrev pub described : StreamState → Name → Name → Bool → StreamMetadata → Decision
-described Created app key fits m = nothing
-described Publishing app key fits m = pick fits (raising StreamMetadataChanged app key m no_change) (refusing NameTooLong)
-described Playing app key fits m = nothing
-described Completed app key fits m = nothing
+abbrev pub described : StreamState → Name → Name → Result StreamMetadata LongEncoder → Decision
+described Created app key read = nothing
+described Publishing app key (Ok m) = raising StreamMetadataChanged app key m no_change
+described Publishing app key (Err e) = refusing NameTooLong
+described Playing app key read = nothing
+described Completed app key read = nothing
 
-abbrev pub change_metadata : Desk → Bool → StreamMetadata → Decision
-change_metadata d fits m = on_stream d (λ (e : Stream). described e.state d.app e.key fits m)
+abbrev pub change_metadata : Desk → Result StreamMetadata LongEncoder → Decision
+change_metadata d read = on_stream d (λ (e : Stream). described e.state d.app e.key read)
 
 -- ---- "audio, video: connected and Publishing raises the event with app, key and timestamp; its data is the body. Else nothing."
-abbrev pub no_frame : Frame
-no_frame = record { event = NoEvent; app = empty_name; key = empty_name }
+abbrev pub shown : StreamState → Event → Name → Name → Option Frame
+shown Created event app key = None
+shown Publishing event app key = Some (record { event = event; app = app; key = key })
+shown Playing event app key = None
+shown Completed event app key = None
 
-abbrev pub shown : StreamState → Event → Name → Name → Frame
-shown Created event app key = no_frame
-shown Publishing event app key = record { event = event; app = app; key = key }
-shown Playing event app key = no_frame
-shown Completed event app key = no_frame
+abbrev pub shown_found : Event → Name → Stream → Option Frame
+shown_found event app e = shown e.state event app e.key
 
-abbrev pub shown_found : Option Stream → Event → Name → Frame
-shown_found none event app = no_frame
-shown_found (some e) event app = shown e.state event app e.key
-
-unfoldable pub frame_of : Session → StreamId → Event → Frame
-frame_of s id event = pick (connected s) (shown_found (stream_of s id.0) event s.app) no_frame
+unfoldable pub frame_of : Session → StreamId → Event → Option Frame
+frame_of s id event = pick (connected s) (option_and_then (shown_found event s.app) (stream_of s id.0)) None

@@ -1,15 +1,15 @@
 // Steps that go by a stream: createStream, closeStream, deleteStream, metadata, audio and video.
 ghost use Rattle.std.specs.Prelude.{◌≡◌};
-ghost use Rattle.streams.specs.Streams.{change_metadata, close_stream, create_stream, created, delete_stream, described, ended, frame_of, no_frame, shown};
+ghost use Rattle.streams.specs.Streams.{change_metadata, close_stream, create_stream, created, delete_stream, described, ended, frame_of, known, shown};
 
-use metadata::{StreamMetadata, no_metadata};
+use metadata::{LongEncoder, StreamMetadata, no_metadata};
 use session::{
     Change, Decision, Desk, Effect, Event, Reply, Session, is_connected, no_change, nothing_done,
     of_stream, quiet, raised, refused, replied,
 };
-use tables::{Stream, StreamState, find_stream};
+use tables::{Stream, StreamState, find};
 use text::{Name, PublishMode, StreamId, empty_name};
-use wishes::Outcome;
+use wishes::Refusal;
 
 // An audio or a video event with its names; the session stays as it is.
 #[derive(Clone, Copy)]
@@ -22,34 +22,40 @@ pub struct Frame {
 pub fn created_stream(id: StreamId) -> Stream
     ensures { result ≡ created id }
 {
-    let key = empty_name();
     Stream {
         id,
         state: StreamState::Created,
         mode: PublishMode::Live,
-        key,
+        key: empty_name(),
     }
 }
 
+#[tactic(auto, unfolding(crate::specs::Streams::create_stream))]
 pub fn create_stream(desk: Desk, transaction: u64) -> Decision
     ensures { result ≡ create_stream desk transaction }
 {
-    if desk.next_stream == 4294967295 {
-        return refused(Outcome::NumbersUsedUp);
+    if desk.next_stream == u32::MAX {
+        return refused(Refusal::NumbersUsedUp);
     }
     if 16 <= desk.stream_count {
-        return refused(Outcome::StreamsFull);
+        return refused(Refusal::StreamsFull);
     }
     let stream = StreamId(desk.next_stream);
-    let change = of_stream(Effect::StreamMade, created_stream(stream));
     replied(
         Reply::StreamCreated {
             transaction,
             stream,
         },
         empty_name(),
-        change,
+        of_stream(Effect::StreamMade, created_stream(stream)),
     )
+}
+
+// The stream in question, where the session is connected.
+fn known(desk: Desk) -> Option<Stream>
+    ensures { result ≡ known desk }
+{
+    if desk.connected { desk.seen } else { None }
 }
 
 // The event of a stream that ends, if it was in use.
@@ -57,127 +63,81 @@ fn end_stream(state: StreamState, app: Name, key: Name, change: Change) -> Decis
     ensures { result ≡ ended state app key change }
 {
     match state {
-        StreamState::Created => quiet(change),
-        StreamState::Publishing => raised(
-            Event::PublishStreamFinished,
-            app,
-            key,
-            no_metadata(),
-            change,
-        ),
+        StreamState::Publishing => {
+            raised(Event::PublishStreamFinished, app, key, no_metadata(), change)
+        }
         StreamState::Playing => raised(Event::PlayStreamFinished, app, key, no_metadata(), change),
-        StreamState::Completed => quiet(change),
+        StreamState::Created | StreamState::Completed => quiet(change),
     }
 }
 
+#[tactic(auto, unfolding(crate::specs::Streams::on_stream))]
 pub fn close_stream(desk: Desk) -> Decision
     ensures { result ≡ close_stream desk }
 {
-    if !desk.connected {
+    let Some(stream) = known(desk) else {
         return nothing_done();
-    }
-    let seen = desk.seen;
-    if !seen.found {
-        return nothing_done();
-    }
-    let stream = seen.stream;
-    let state = stream.state;
-    let app = desk.app;
-    let key = stream.key;
+    };
     let change = of_stream(Effect::StreamSet, created_stream(stream.id));
-    end_stream(state, app, key, change)
+    end_stream(stream.state, desk.app, stream.key, change)
 }
 
+#[tactic(auto, unfolding(crate::specs::Streams::on_stream))]
 pub fn delete_stream(desk: Desk) -> Decision
     ensures { result ≡ delete_stream desk }
 {
-    if !desk.connected {
+    let Some(stream) = known(desk) else {
         return nothing_done();
-    }
-    let seen = desk.seen;
-    if !seen.found {
-        return nothing_done();
-    }
-    let stream = seen.stream;
-    let state = stream.state;
-    let app = desk.app;
-    let key = stream.key;
+    };
     let change = of_stream(Effect::StreamRemoved, stream);
-    end_stream(state, app, key, change)
+    end_stream(stream.state, desk.app, stream.key, change)
 }
 
 // The metadata of a publishing stream; an encoder that is too long is refused only here.
-fn describe(state: StreamState, app: Name, key: Name, fits: bool, m: StreamMetadata) -> Decision
-    ensures { result ≡ described state app key fits m }
+fn describe(
+    state: StreamState,
+    app: Name,
+    key: Name,
+    read: Result<StreamMetadata, LongEncoder>,
+) -> Decision
+    ensures { result ≡ described state app key read }
 {
-    match state {
-        StreamState::Created => nothing_done(),
-        StreamState::Publishing => {
-            if fits {
-                return raised(Event::StreamMetadataChanged, app, key, m, no_change());
-            }
-            refused(Outcome::NameTooLong)
+    match (state, read) {
+        (StreamState::Publishing, Ok(m)) => {
+            raised(Event::StreamMetadataChanged, app, key, m, no_change())
         }
-        StreamState::Playing => nothing_done(),
-        StreamState::Completed => nothing_done(),
+        (StreamState::Publishing, Err(_)) => refused(Refusal::NameTooLong),
+        _ => nothing_done(),
     }
 }
 
-pub fn change_metadata(desk: Desk, fits: bool, m: StreamMetadata) -> Decision
-    ensures { result ≡ change_metadata desk fits m }
+#[tactic(auto, unfolding(crate::specs::Streams::on_stream))]
+pub fn change_metadata(desk: Desk, read: Result<StreamMetadata, LongEncoder>) -> Decision
+    ensures { result ≡ change_metadata desk read }
 {
-    if !desk.connected {
+    let Some(stream) = known(desk) else {
         return nothing_done();
-    }
-    let seen = desk.seen;
-    if !seen.found {
-        return nothing_done();
-    }
-    let stream = seen.stream;
-    let state = stream.state;
-    let app = desk.app;
-    let key = stream.key;
-    describe(state, app, key, fits, m)
+    };
+    describe(stream.state, desk.app, stream.key, read)
 }
 
-fn no_frame() -> Frame
-    ensures { result ≡ no_frame }
-{
-    let app = empty_name();
-    let key = empty_name();
-    Frame {
-        event: Event::NoEvent,
-        app,
-        key,
-    }
-}
-
-fn show_frame(state: StreamState, event: Event, app: Name, key: Name) -> Frame
+fn show_frame(state: StreamState, event: Event, app: Name, key: Name) -> Option<Frame>
     ensures { result ≡ shown state event app key }
 {
     match state {
-        StreamState::Created => no_frame(),
-        StreamState::Publishing => Frame { event, app, key },
-        StreamState::Playing => no_frame(),
-        StreamState::Completed => no_frame(),
+        StreamState::Publishing => Some(Frame { event, app, key }),
+        _ => None,
     }
 }
 
 // The event under the key of a publishing stream. The session goes in by value and does not come back: no copy is made.
-pub fn frame_of(session: Session, id: StreamId, event: Event) -> Frame
+#[tactic(auto, unfolding(crate::specs::Streams::frame_of))]
+pub fn frame_of(session: Session, id: StreamId, event: Event) -> Option<Frame>
     ensures { result ≡ frame_of session id event }
 {
     if !is_connected(session) {
-        return no_frame();
+        return None;
     }
-    let streams = session.streams;
-    let place = find_stream(streams, session.stream_count, id);
-    if !place.found {
-        return no_frame();
-    }
-    let stream = place.stream;
-    let state = stream.state;
-    let app = session.app;
-    let key = stream.key;
-    show_frame(state, event, app, key)
+    let stream = find(&session.streams, session.stream_count, id)?;
+    show_frame(stream.state, event, session.app, stream.key)
 }
