@@ -1,10 +1,9 @@
 -- Every decision of the application changes a session by what fits it.
-use mathlib.Core.Path.{◌≡◌}
+use mathlib.Core.Path.{◌≡◌, refl}
 use Prim.Native.Nat.{◌≤◌}
 use mathlib.Core.Bool.{Bool, true, false}
-use mathlib.Core.Option.{some}
+use Rattle.std.specs.Prelude.{Option, Some, None}
 use lib.Dec.{lit≤}
-use Rattle.numbers.proofs.ChooseLaws.{pick_elim}
 use Rattle.text.specs.declared.ids.RequestId.{RequestId}
 use Rattle.text.specs.declared.ids.StreamId.{StreamId}
 use Rattle.tables.specs.declared.requests.Request.{Request}
@@ -21,12 +20,16 @@ use Rattle.session.specs.declared.decision.Reply.{Reply}
 use Rattle.session.specs.declared.session.Session.{Session}
 use Rattle.session.proofs.FitsLaws.{Fits, either, request_there}
 use Rattle.session.proofs.SoundTheorems.{Sound, request_short}
-use Rattle.decisions.specs.Answers.{accepted, accept_request, finish_playing, finished, finished_on, granted, on_waiting, playing, publishing, reject_request, rejected, settled}
+use Rattle.decisions.specs.Answers.{accepted, accept_request, finish_playing, finished, finished_on, granted, playing, publishing, reject_request, rejected, settled, stream_stands}
 
 module _ (s : Session) where
+  rejects : (n : RequestId) (q : Option Request) (short : Bool) → request_at s n ≡ q → Fits s (reject_request q short).change
+  unfolding reject_request
+  rejects n (Some r) short h = either s short _ _ (request_there s n r h) tt
+  rejects n None short h = tt
+
   pub rejected_fits : (id : RequestId) (short : Bool) → Fits s (rejected s id short).change
-  unfolding reject_request on_waiting
-  rejected_fits id short = pick_elim (λ (d : Decision). Fits s d.change) _ _ (request_at s id).found (λ h. either s short _ _ (request_there s id h) tt) (λ h. tt)
+  rejected_fits id short = rejects id (request_at s id) short refl
 
   finishes : (x : StreamState) (id : StreamId) (e : Stream) → Fits s (finished x id e).change
   finishes Created id e = tt
@@ -34,13 +37,16 @@ module _ (s : Session) where
   finishes Playing id e = lit≤ tt
   finishes Completed id e = tt
 
-  pub finished_fits : (id : StreamId) → Fits s (finished_on s id).change
+  ends : (q : Option Stream) (id : StreamId) → Fits s (finish_playing q id).change
   unfolding finish_playing
-  finished_fits id = either s (stream_at s id).found _ _ (finishes (stream_at s id).stream.state id (stream_at s id).stream) tt
+  ends (Some e) id = finishes e.state id e
+  ends None id = tt
 
-  module _ (r : Request) (there : request_of s r.id.0 ≡ some r) (short : r.name.len ≤ 128) where
+  pub finished_fits : (id : StreamId) → Fits s (finished_on s id).change
+  finished_fits id = ends (stream_at s id) id
+
+  module _ (r : Request) (there : request_of s r.id.0 ≡ Some r) (short : r.name.len ≤ 128) where
     settle : (found : Bool) (action : Action) (reply : Reply) (x : Stream) → x.key.len ≤ 128 → Fits s (settled found action r reply x).change
-    unfolding settled
     settle true action reply x k = (there, k)
     settle false action reply x k = there
 
@@ -49,9 +55,10 @@ module _ (s : Session) where
     grants PublishKind found = settle found Publishes _ (publishing r) short
     grants PlayKind found = settle found Plays _ (playing r) short
 
+  accepts : Sound s → (n : RequestId) (q : Option Request) (found : Bool) → request_at s n ≡ q → Fits s (accept_request q found).change
+  unfolding accept_request
+  accepts h n (Some r) found e = let f = request_there s n r e in grants r f (request_short s h r.id.0 r f) r.kind found
+  accepts h n None found e = tt
+
   pub accepted_fits : Sound s → (id : RequestId) → Fits s (accepted s id).change
-  unfolding accept_request on_waiting
-  accepted_fits h id =
-      let r = (request_at s id).request in
-      pick_elim (λ (d : Decision). Fits s d.change) _ _ (request_at s id).found
-      (λ f. grants r (request_there s id f) (request_short s h r.id.0 r (request_there s id f)) r.kind (stream_at s r.stream).found) (λ f. tt)
+  accepted_fits h id = accepts h id (request_at s id) (stream_stands s (request_at s id)) refl

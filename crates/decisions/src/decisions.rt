@@ -3,57 +3,53 @@ ghost use Rattle.std.specs.Prelude.{◌≡◌};
 ghost use Rattle.decisions.specs.Answers.{accept_request, completed, finish_playing, finished, granted, playing, publishing, reject_request, rejection, settled};
 ghost use Rattle.session.specs.Decisions.{refusing};
 ghost use Rattle.wishes.specs.declared.outcome.Action.TheVariants.{Complete as Completes};
-ghost use Rattle.wishes.specs.declared.outcome.Outcome.TheVariants.{WrongStream};
+ghost use Rattle.wishes.specs.declared.outcome.Refusal.TheVariants.{WrongStream};
 
 use session::{
     Change, Decision, Effect, Reply, of_request, of_stream, refused, refused_with, replied,
 };
-use tables::{Request, RequestFound, RequestKind, Stream, StreamFound, StreamState};
+use tables::{Request, RequestKind, Stream, StreamState};
 use text::{PublishMode, StreamId, empty_name};
-use wishes::{Action, Outcome};
+use wishes::{Action, Refusal};
 
 // The request's stream becomes this one; where it is missing, the request is gone all the same.
 fn settle(found: bool, action: Action, request: Request, reply: Reply, stream: Stream) -> Decision
     ensures { result ≡ settled found action request reply stream }
 {
-    let id = request.stream;
     if found {
-        let name = request.name;
         let change = Change {
             effect: Effect::StreamAccepted,
             stream,
             request,
         };
-        return replied(reply, name, change);
+        return replied(reply, request.name, change);
     }
-    let outcome = Outcome::WrongStream { action, stream: id };
-    refused_with(outcome, of_request(Effect::RequestRemoved, request))
+    let refusal = Refusal::WrongStream {
+        action,
+        stream: request.stream,
+    };
+    refused_with(refusal, of_request(Effect::RequestRemoved, request))
 }
 
 fn publishing_stream(request: Request) -> Stream
     ensures { result ≡ publishing request }
 {
-    let id = request.stream;
-    let mode = request.mode;
-    let key = request.name;
     Stream {
-        id,
+        id: request.stream,
         state: StreamState::Publishing,
-        mode,
-        key,
+        mode: request.mode,
+        key: request.name,
     }
 }
 
 fn playing_stream(request: Request) -> Stream
     ensures { result ≡ playing request }
 {
-    let id = request.stream;
-    let key = request.name;
     Stream {
-        id,
+        id: request.stream,
         state: StreamState::Playing,
         mode: PublishMode::Live,
-        key,
+        key: request.name,
     }
 }
 
@@ -61,80 +57,70 @@ fn playing_stream(request: Request) -> Stream
 fn grant(kind: RequestKind, request: Request, found: bool) -> Decision
     ensures { result ≡ granted kind request found }
 {
-    let id = request.stream;
-    let name = request.name;
     match kind {
         RequestKind::Connect => replied(
             Reply::ConnectAccepted {
                 transaction: request.transaction,
             },
-            name,
+            request.name,
             of_request(Effect::ConnectAccepted, request),
         ),
         RequestKind::Publish => settle(
             found,
             Action::Publish,
             request,
-            Reply::PublishAccepted(id),
+            Reply::PublishAccepted(request.stream),
             publishing_stream(request),
         ),
         RequestKind::Play => settle(
             found,
             Action::Play,
             request,
-            Reply::PlayAccepted(id),
+            Reply::PlayAccepted(request.stream),
             playing_stream(request),
         ),
     }
 }
 
 // `found`: whether the request's stream is there.
-pub fn accept(waiting: RequestFound, found: bool) -> Decision
+#[tactic(auto, unfolding(crate::specs::Answers::accept_request))]
+pub fn accept(waiting: Option<Request>, found: bool) -> Decision
     ensures { result ≡ accept_request waiting found }
 {
-    if !waiting.found {
-        return refused(Outcome::NoSuchRequest);
+    match waiting {
+        Some(request) => grant(request.kind, request, found),
+        None => refused(Refusal::NoSuchRequest),
     }
-    let request = waiting.request;
-    let kind = request.kind;
-    grant(kind, request, found)
 }
 
 fn reject_reply(kind: RequestKind, request: Request) -> Reply
     ensures { result ≡ rejection kind request }
 {
-    let stream = request.stream;
     match kind {
         RequestKind::Connect => Reply::Rejected {
             transaction: request.transaction,
             stream: StreamId(0),
         },
-        RequestKind::Publish => Reply::Rejected {
+        RequestKind::Publish | RequestKind::Play => Reply::Rejected {
             transaction: 0,
-            stream,
-        },
-        RequestKind::Play => Reply::Rejected {
-            transaction: 0,
-            stream,
+            stream: request.stream,
         },
     }
 }
 
 // `short`: neither the code nor the description is over 256 bytes.
-pub fn reject(waiting: RequestFound, short: bool) -> Decision
+#[tactic(auto, unfolding(crate::specs::Answers::reject_request))]
+pub fn reject(waiting: Option<Request>, short: bool) -> Decision
     ensures { result ≡ reject_request waiting short }
 {
-    if !waiting.found {
-        return refused(Outcome::NoSuchRequest);
-    }
+    let Some(request) = waiting else {
+        return refused(Refusal::NoSuchRequest);
+    };
     if !short {
-        return refused(Outcome::TextTooLong);
+        return refused(Refusal::TextTooLong);
     }
-    let request = waiting.request;
-    let kind = request.kind;
-    let reply = reject_reply(kind, request);
     replied(
-        reply,
+        reject_reply(request.kind, request),
         empty_name(),
         of_request(Effect::RequestRemoved, request),
     )
@@ -143,7 +129,7 @@ pub fn reject(waiting: RequestFound, short: bool) -> Decision
 fn not_playing(id: StreamId) -> Decision
     ensures { result ≡ refusing (WrongStream Completes id) }
 {
-    refused(Outcome::WrongStream {
+    refused(Refusal::WrongStream {
         action: Action::Complete,
         stream: id,
     })
@@ -152,12 +138,11 @@ fn not_playing(id: StreamId) -> Decision
 fn completed_stream(id: StreamId) -> Stream
     ensures { result ≡ completed id }
 {
-    let key = empty_name();
     Stream {
         id,
         state: StreamState::Completed,
         mode: PublishMode::Live,
-        key,
+        key: empty_name(),
     }
 }
 
@@ -165,24 +150,20 @@ fn complete(state: StreamState, id: StreamId, stream: Stream) -> Decision
     ensures { result ≡ finished state id stream }
 {
     match state {
-        StreamState::Created => not_playing(id),
-        StreamState::Publishing => not_playing(id),
         StreamState::Playing => {
-            let key = stream.key;
             let change = of_stream(Effect::StreamSet, completed_stream(id));
-            replied(Reply::PlayFinished(id), key, change)
+            replied(Reply::PlayFinished(id), stream.key, change)
         }
-        StreamState::Completed => not_playing(id),
+        _ => not_playing(id),
     }
 }
 
-pub fn finish(seen: StreamFound, id: StreamId) -> Decision
+#[tactic(auto, unfolding(crate::specs::Answers::finish_playing))]
+pub fn finish(seen: Option<Stream>, id: StreamId) -> Decision
     ensures { result ≡ finish_playing seen id }
 {
-    if !seen.found {
-        return not_playing(id);
+    match seen {
+        Some(stream) => complete(stream.state, id, stream),
+        None => not_playing(id),
     }
-    let stream = seen.stream;
-    let state = stream.state;
-    complete(state, id, stream)
 }
