@@ -1,4 +1,3 @@
 pub mod CommandsLaws
-pub mod DecidingLaws
 pub mod RefusalTheorems
 pub mod SoundTheorems

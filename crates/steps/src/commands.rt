@@ -1,69 +1,55 @@
 // Commands that file a request: connect, publish, play.
 ghost use Rattle.std.specs.Prelude.{◌≡◌};
-ghost use Rattle.steps.specs.Commands.{asking, connect as connect_decision, connected_fault, failing, following_request, play as play_decision, play_request, publish as publish_decision, publish_request, request_room};
-ghost use Rattle.session.specs.Changes.{filing_of};
-ghost use Rattle.session.specs.Decisions.{raising};
-ghost use Rattle.metadata.specs.Metadata.{no_metadata};
-ghost use Rattle.session.specs.declared.decision.CommandFault.TheVariants.{PlayUnconnected, PublishUnconnected};
-ghost use Rattle.session.specs.declared.decision.Event.TheVariants.{PlayStreamRequested, PublishStreamRequested};
+ghost use Rattle.steps.specs.Commands.{connect as connect_decision, failing, may_ask, play as play_decision, play_fault, play_good, publish as publish_decision, publish_fault, publish_good, request_room};
 
 use metadata::no_metadata;
-use numbers::{PlayDuration, PlayStartValue};
 use session::{
     CommandFault, Decision, Desk, Effect, Event, Reply, no_change, of_request, raised, refused,
     replied,
 };
 use tables::{Request, RequestKind};
 use text::{Name, PublishMode, RequestId, StreamId, empty_name};
-use wishes::{Outcome, PlayArguments, PublishArguments};
+use wishes::{PlayArguments, PlayFault, PublishArguments, PublishFault, Refusal};
 
-// Whether a request can be filed, or why not.
-#[derive(Clone, Copy)]
-pub enum Room {
-    Open,
-    Closed(Outcome),
-}
-
-fn request_room(desk: Desk, fits: bool) -> Room
-    ensures { result ≡ request_room desk fits }
+// The name of a request that can be filed, or why it can't.
+#[tactic(auto, unfolding(crate::specs::Commands::request_room))]
+fn request_room(desk: Desk, name: Option<Name>) -> Result<Name, Refusal>
+    ensures { result ≡ request_room desk name }
 {
-    if !fits {
-        return Room::Closed(Outcome::NameTooLong);
-    }
-    if desk.next_request == 4294967295 {
-        return Room::Closed(Outcome::NumbersUsedUp);
+    let name = name.ok_or(Refusal::NameTooLong)?;
+    if desk.next_request == u32::MAX {
+        return Err(Refusal::NumbersUsedUp);
     }
     if 16 <= desk.request_count {
-        return Room::Closed(Outcome::RequestsFull);
+        return Err(Refusal::RequestsFull);
     }
-    Room::Open
+    Ok(name)
 }
 
-pub fn connect(desk: Desk, transaction: u64, encoding: u64, fits: bool, app: Name) -> Decision
-    ensures { result ≡ connect_decision desk transaction encoding fits app }
+pub fn connect(desk: Desk, transaction: u64, encoding: u64, app: Option<Name>) -> Decision
+    ensures { result ≡ connect_decision desk transaction encoding app }
 {
-    match request_room(desk, fits) {
-        Room::Closed(outcome) => refused(outcome),
-        Room::Open => {
-            let id = RequestId(desk.next_request);
-            let request = Request {
-                id,
-                kind: RequestKind::Connect,
-                stream: StreamId(0),
-                mode: PublishMode::Live,
-                transaction,
-                name: app,
-            };
-            let change = of_request(Effect::ConnectFiled { encoding }, request);
-            raised(
-                Event::ConnectionRequested(id),
-                app,
-                empty_name(),
-                no_metadata(),
-                change,
-            )
-        }
-    }
+    let app = match request_room(desk, app) {
+        Ok(app) => app,
+        Err(refusal) => return refused(refusal),
+    };
+    let id = RequestId(desk.next_request);
+    let request = Request {
+        id,
+        kind: RequestKind::Connect,
+        stream: StreamId(0),
+        mode: PublishMode::Live,
+        transaction,
+        name: app,
+    };
+    let change = of_request(Effect::ConnectFiled { encoding }, request);
+    raised(
+        Event::ConnectionRequested(id),
+        app,
+        empty_name(),
+        no_metadata(),
+        change,
+    )
 }
 
 // An error record, and nothing else.
@@ -81,39 +67,31 @@ fn fail(transaction: u64, fault: CommandFault, stream: StreamId) -> Decision
     )
 }
 
-// The fault of an argument, which counts only behind a connection.
-fn connected_fault(desk: Desk, unconnected: CommandFault, fault: CommandFault) -> CommandFault
-    ensures { result ≡ connected_fault desk unconnected fault }
-{
-    if desk.connected {
-        return fault;
-    }
-    unconnected
-}
-
-// A publish or a play whose arguments are good: its request and its event, if they may be.
-fn ask(
+// The key of a publish or a play whose arguments are good, if it may be filed; else what is decided.
+fn may_ask(
     desk: Desk,
     stream: StreamId,
     transaction: u64,
     unconnected: CommandFault,
-    fits: bool,
-    event: Event,
-    key: Name,
-    request: Request,
-) -> Decision
-    ensures { result ≡ asking desk stream transaction unconnected fits (raising event desk.app key no_metadata (filing_of request)) }
+    key: Option<Name>,
+) -> Result<Name, Decision>
+    ensures { result ≡ may_ask desk stream transaction unconnected key }
 {
     if !desk.connected {
-        return fail(transaction, unconnected, stream);
+        return Err(fail(transaction, unconnected, stream));
     }
-    match request_room(desk, fits) {
-        Room::Closed(outcome) => refused(outcome),
-        Room::Open => {
-            let change = of_request(Effect::RequestFiled, request);
-            let app = desk.app;
-            raised(event, app, key, no_metadata(), change)
-        }
+    request_room(desk, key).map_err(|refusal| refused(refusal))
+}
+
+// A missing argument counts before a missing connection, the other faults behind it.
+fn publish_fault(connected: bool, fault: PublishFault) -> CommandFault
+    ensures { result ≡ publish_fault connected fault }
+{
+    match fault {
+        PublishFault::TooFew => CommandFault::PublishFew,
+        _ if !connected => CommandFault::PublishUnconnected,
+        PublishFault::KeyNoString | PublishFault::ModeNoString => CommandFault::PublishFew,
+        PublishFault::ModeUnknown => CommandFault::PublishUnknownMode,
     }
 }
 
@@ -121,13 +99,17 @@ fn publish_good(
     desk: Desk,
     stream: StreamId,
     transaction: u64,
-    mode: PublishMode,
-    fits: bool,
-    key: Name,
+    arguments: PublishArguments,
 ) -> Decision
-    ensures { result ≡ asking desk stream transaction PublishUnconnected fits (raising (PublishStreamRequested (following_request desk) mode) desk.app key no_metadata (filing_of (publish_request desk stream mode key))) }
+    ensures { result ≡ publish_good desk stream transaction arguments }
 {
+    let unconnected = CommandFault::PublishUnconnected;
+    let key = match may_ask(desk, stream, transaction, unconnected, arguments.key) {
+        Ok(key) => key,
+        Err(decision) => return decision,
+    };
     let id = RequestId(desk.next_request);
+    let mode = arguments.mode;
     let request = Request {
         id,
         kind: RequestKind::Publish,
@@ -136,15 +118,12 @@ fn publish_good(
         transaction: 0,
         name: key,
     };
-    ask(
-        desk,
-        stream,
-        transaction,
-        CommandFault::PublishUnconnected,
-        fits,
+    raised(
         Event::PublishStreamRequested { request: id, mode },
+        desk.app,
         key,
-        request,
+        no_metadata(),
+        of_request(Effect::RequestFiled, request),
     )
 }
 
@@ -152,39 +131,22 @@ pub fn publish(
     desk: Desk,
     stream: StreamId,
     transaction: u64,
-    arguments: PublishArguments,
-    fits: bool,
-    key: Name,
+    arguments: Result<PublishArguments, PublishFault>,
 ) -> Decision
-    ensures { result ≡ publish_decision desk stream transaction arguments fits key }
+    ensures { result ≡ publish_decision desk stream transaction arguments }
 {
     match arguments {
-        PublishArguments::TooFew => fail(transaction, CommandFault::PublishFew, stream),
-        PublishArguments::KeyNoString => {
-            let fault = connected_fault(
-                desk,
-                CommandFault::PublishUnconnected,
-                CommandFault::PublishFew,
-            );
-            fail(transaction, fault, stream)
-        }
-        PublishArguments::ModeNoString => {
-            let fault = connected_fault(
-                desk,
-                CommandFault::PublishUnconnected,
-                CommandFault::PublishFew,
-            );
-            fail(transaction, fault, stream)
-        }
-        PublishArguments::ModeUnknown => {
-            let fault = connected_fault(
-                desk,
-                CommandFault::PublishUnconnected,
-                CommandFault::PublishUnknownMode,
-            );
-            fail(transaction, fault, stream)
-        }
-        PublishArguments::Good(mode) => { publish_good(desk, stream, transaction, mode, fits, key) }
+        Ok(good) => publish_good(desk, stream, transaction, good),
+        Err(fault) => fail(transaction, publish_fault(desk.connected, fault), stream),
+    }
+}
+
+fn play_fault(connected: bool, fault: PlayFault) -> CommandFault
+    ensures { result ≡ play_fault connected fault }
+{
+    match fault {
+        PlayFault::KeyNoString if !connected => CommandFault::PlayUnconnected,
+        _ => CommandFault::PlayFew,
     }
 }
 
@@ -192,14 +154,15 @@ fn play_good(
     desk: Desk,
     stream: StreamId,
     transaction: u64,
-    start: PlayStartValue,
-    duration: PlayDuration,
-    reset: bool,
-    fits: bool,
-    key: Name,
+    arguments: PlayArguments,
 ) -> Decision
-    ensures { result ≡ asking desk stream transaction PlayUnconnected fits (raising (PlayStreamRequested (following_request desk) start duration reset stream) desk.app key no_metadata (filing_of (play_request desk stream key))) }
+    ensures { result ≡ play_good desk stream transaction arguments }
 {
+    let unconnected = CommandFault::PlayUnconnected;
+    let key = match may_ask(desk, stream, transaction, unconnected, arguments.key) {
+        Ok(key) => key,
+        Err(decision) => return decision,
+    };
     let id = RequestId(desk.next_request);
     let request = Request {
         id,
@@ -209,21 +172,19 @@ fn play_good(
         transaction: 0,
         name: key,
     };
-    ask(
-        desk,
+    let event = Event::PlayStreamRequested {
+        request: id,
+        start: arguments.start,
+        duration: arguments.duration,
+        reset: arguments.reset,
         stream,
-        transaction,
-        CommandFault::PlayUnconnected,
-        fits,
-        Event::PlayStreamRequested {
-            request: id,
-            start,
-            duration,
-            reset,
-            stream,
-        },
+    };
+    raised(
+        event,
+        desk.app,
         key,
-        request,
+        no_metadata(),
+        of_request(Effect::RequestFiled, request),
     )
 }
 
@@ -231,22 +192,12 @@ pub fn play(
     desk: Desk,
     stream: StreamId,
     transaction: u64,
-    arguments: PlayArguments,
-    fits: bool,
-    key: Name,
+    arguments: Result<PlayArguments, PlayFault>,
 ) -> Decision
-    ensures { result ≡ play_decision desk stream transaction arguments fits key }
+    ensures { result ≡ play_decision desk stream transaction arguments }
 {
     match arguments {
-        PlayArguments::TooFew => fail(transaction, CommandFault::PlayFew, stream),
-        PlayArguments::KeyNoString => {
-            let fault = connected_fault(desk, CommandFault::PlayUnconnected, CommandFault::PlayFew);
-            fail(transaction, fault, stream)
-        }
-        PlayArguments::Good {
-            start,
-            duration,
-            reset,
-        } => play_good(desk, stream, transaction, start, duration, reset, fits, key),
+        Ok(good) => play_good(desk, stream, transaction, good),
+        Err(fault) => fail(transaction, play_fault(desk.connected, fault), stream),
     }
 }

@@ -4,5 +4,5 @@
 mod commands;
 mod deciding;
 
-pub use commands::{Room, connect, play, publish};
+pub use commands::{connect, play, publish};
 pub use deciding::{decide, subject};
