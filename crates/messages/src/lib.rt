@@ -3,4 +3,4 @@
 
 mod messages;
 
-pub use messages::{MediaAnswer, MediaKind, handle_media, handle_message};
+pub use messages::{MediaKind, handle_media, handle_message};

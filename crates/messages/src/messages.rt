@@ -1,58 +1,60 @@
 // Messages that come in.
 ghost use Rattle.std.specs.Prelude.{◌≡◌};
 ghost use Rattle.messages.specs.Messages.{by_type, frame_answer, handle_media, handle_message, media_event, wished};
+ghost use Rattle.steps.specs.Deciding.{decided};
 
-use metadata::no_metadata;
 use replies::{Answer, finish_call, idle_answer, refuse};
-use session::{Event, Session, desk_of, session_sound};
+use session::{Decision, Event, Session, desk_of, refused, session_sound};
 use steps::{decide, subject};
 use streams::{Frame, frame_of};
-use text::{Name, StreamId, empty_name};
-use wishes::{Outcome, Wish, command_wish, control_wish, data_wish};
+use text::StreamId;
+use wishes::{Refusal, Wish, command_wish, control_wish, data_wish};
 
-#[derive(Clone, Copy)]
+#[derive(Clone, Copy, Debug, PartialEq, Eq)]
 pub enum MediaKind {
     Audio,
     Video,
 }
 
-// Of an audio or a video message: the session stays as it was, and nothing is written.
-#[derive(Clone, Copy)]
-pub struct MediaAnswer {
-    pub outcome: Outcome,
-    pub event: Event,
-    pub app: Name,
-    pub key: Name,
+#[tactic(auto, unfolding(steps::specs::Deciding::decided))]
+fn decide_read(session: Session, stream: StreamId, read: Result<Wish, Refusal>) -> Decision
+    ensures { result ≡ decided session stream read }
+{
+    match read {
+        Ok(wish) => decide(desk_of(session, subject(wish, stream)), stream, wish),
+        Err(refusal) => refused(refusal),
+    }
 }
 
-fn by_wish(session: Session, stream: StreamId, clock: u64, out: &mut [u8], wish: Wish) -> Answer
-    ensures { (result, out.new) ≡ wished session stream clock out.old wish }
+fn by_wish(
+    session: Session,
+    stream: StreamId,
+    clock: u64,
+    out: &mut [u8],
+    read: Result<Wish, Refusal>,
+) -> Answer
+    ensures { (result, out.new) ≡ wished session stream clock out.old read }
 {
-    let want = wish.want;
-    let desk = desk_of(session, subject(want, stream));
-    let decision = decide(desk, stream, wish);
+    let decision = decide_read(session, stream, read);
     finish_call(session, decision, b"", b"", clock, out)
 }
 
-fn frame_answer(session: Session, frame: Frame) -> Answer
+fn frame_answer(session: Session, frame: Option<Frame>) -> Answer
     ensures { result ≡ frame_answer session frame }
 {
-    let event = frame.event;
-    let app = frame.app;
-    let key = frame.key;
-    let metadata = no_metadata();
-    Answer {
-        outcome: Outcome::Done,
-        event,
-        app,
-        key,
-        metadata,
-        count: 0,
-        session,
+    match frame {
+        Some(frame) => Answer {
+            event: Some(frame.event),
+            app: frame.app,
+            key: frame.key,
+            ..idle_answer(session, 0)
+        },
+        None => idle_answer(session, 0),
     }
 }
 
 // The type alone picks the treatment.
+#[tactic(auto, unfolding(crate::specs::Messages::by_type))]
 fn by_type(
     session: Session,
     kind: u8,
@@ -80,6 +82,7 @@ fn by_type(
     }
 }
 
+#[tactic(auto, unfolding(crate::specs::Messages::guarded))]
 pub fn handle_message(
     session: Session,
     kind: u8,
@@ -92,7 +95,7 @@ pub fn handle_message(
     ensures { (result, out.new) ≡ handle_message session kind stream timestamp clock body.now out.old }
 {
     if !session_sound(session) {
-        return refuse(Outcome::BadSession, session);
+        return refuse(Refusal::BadSession, session);
     }
     by_type(session, kind, stream, timestamp, clock, body, out)
 }
@@ -106,33 +109,19 @@ fn media_event(kind: MediaKind, timestamp: u32) -> Event
     }
 }
 
-// An audio or a video message. The session stays as it is and is not handed back, so no copy of it is made.
+// An audio or a video message. The session stays as it is and is not handed back, so no copy of it is made, and nothing
+// is written.
+#[tactic(auto, unfolding(crate::specs::Messages::handle_media))]
 pub fn handle_media(
     session: Session,
     kind: MediaKind,
     stream: StreamId,
     timestamp: u32,
-) -> MediaAnswer
+) -> Result<Option<Frame>, Refusal>
     ensures { result ≡ handle_media session kind stream timestamp }
 {
     if !session_sound(session) {
-        let app = empty_name();
-        let key = empty_name();
-        return MediaAnswer {
-            outcome: Outcome::BadSession,
-            event: Event::NoEvent,
-            app,
-            key,
-        };
+        return Err(Refusal::BadSession);
     }
-    let frame = frame_of(session, stream, media_event(kind, timestamp));
-    let event = frame.event;
-    let app = frame.app;
-    let key = frame.key;
-    MediaAnswer {
-        outcome: Outcome::Done,
-        event,
-        app,
-        key,
-    }
+    Ok(frame_of(session, stream, media_event(kind, timestamp)))
 }

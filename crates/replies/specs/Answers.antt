@@ -1,25 +1,22 @@
 -- The answers of calls. What a case does not use is empty.
-use Rattle.std.specs.Prelude.{ℕ, List}
-use Rattle.numbers.specs.Choose.{pick}
+use Rattle.std.specs.Prelude.{ℕ, List, Option, Some, None, Ok, Err}
 use Rattle.text.specs.Names.{empty_name}
 use Rattle.metadata.specs.Metadata.{no_metadata}
 use Rattle.answers.specs.Sending.{sent}
-use Rattle.answers.specs.declared.sent.Sent.{Sent}
-use Rattle.wishes.specs.declared.outcome.Outcome.{Outcome}
-use Rattle.wishes.specs.declared.outcome.Outcome.TheVariants.{Done, NoRoom}
+use Rattle.wishes.specs.declared.outcome.Refusal.{Refusal}
+use Rattle.wishes.specs.declared.outcome.Refusal.TheVariants.{NoRoom}
 use Rattle.session.specs.Changes.{applied}
 use Rattle.session.specs.declared.decision.Decision.{Decision}
-use Rattle.session.specs.declared.decision.Event.TheVariants.{NoEvent}
 use Rattle.session.specs.declared.session.Session.{Session}
 use Rattle.replies.specs.declared.answer.Answer.{Answer}
 
 -- "Every refusal leaves session and out buffer unchanged and raises nothing"
-abbrev pub refusal : Outcome → Session → Answer
-refusal outcome s = record { outcome = outcome; event = NoEvent; app = empty_name; key = empty_name; metadata = no_metadata; count = 0; session = s }
+abbrev pub refusal : Refusal → Session → Answer
+refusal why s = record { outcome = Err why; event = None; app = empty_name; key = empty_name; metadata = no_metadata; count = 0; session = s }
 
 -- done, with no event
 abbrev pub idle : Session → ℕ → Answer
-idle s n = record { outcome = Done; event = NoEvent; app = empty_name; key = empty_name; metadata = no_metadata; count = n; session = s }
+idle s n = record { outcome = Ok tt; event = None; app = empty_name; key = empty_name; metadata = no_metadata; count = n; session = s }
 
 abbrev pub answer_with : Session → Decision → ℕ → Answer
 answer_with next d n = record { outcome = d.outcome; event = d.event; app = d.app; key = d.key; metadata = d.metadata; count = n; session = next }
@@ -29,8 +26,9 @@ abbrev pub answer_of : Session → Decision → ℕ → Answer
 answer_of s d n = answer_with (applied s d.change) d n
 
 -- 12 stands between the decision and its records: "Removing a request before the out buffer is known to suffice" can't happen
-abbrev pub closed : Session → Decision → Sent → Answer
-closed s d r = pick r.fits (answer_of s d r.count) (refusal NoRoom s)
+abbrev pub closed : Session → Decision → Option ℕ → Answer
+closed s d (Some n) = answer_of s d n
+closed s d None = refusal NoRoom s
 
 -- the answer and the buffer, of a decision and its records
 unfoldable pub answered : Session → Decision → List ℕ → List ℕ → Answer × List ℕ

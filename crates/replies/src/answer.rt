@@ -2,17 +2,16 @@
 ghost use Rattle.std.specs.Prelude.{◌≡◌};
 ghost use Rattle.replies.specs.Answers.{answer_with, closed, idle, refusal};
 
-use answers::Sent;
 use metadata::{StreamMetadata, no_metadata};
 use session::{Decision, Event, Session, apply};
 use text::{Name, empty_name};
-use wishes::Outcome;
+use wishes::{Outcome, Refusal};
 
 // The event's names and metadata stand beside it, empty where it has none. `count` bytes were written.
 #[derive(Clone, Copy)]
 pub struct Answer {
     pub outcome: Outcome,
-    pub event: Event,
+    pub event: Option<Event>,
     pub app: Name,
     pub key: Name,
     pub metadata: StreamMetadata,
@@ -20,20 +19,12 @@ pub struct Answer {
     pub session: Session,
 }
 
-pub fn refuse(outcome: Outcome, session: Session) -> Answer
-    ensures { result ≡ refusal outcome session }
+pub fn refuse(why: Refusal, session: Session) -> Answer
+    ensures { result ≡ refusal why session }
 {
-    let app = empty_name();
-    let key = empty_name();
-    let metadata = no_metadata();
     Answer {
-        outcome,
-        event: Event::NoEvent,
-        app,
-        key,
-        metadata,
-        count: 0,
-        session,
+        outcome: Err(why),
+        ..idle_answer(session, 0)
     }
 }
 
@@ -41,15 +32,12 @@ pub fn refuse(outcome: Outcome, session: Session) -> Answer
 pub fn idle_answer(session: Session, count: usize) -> Answer
     ensures { result ≡ idle session count }
 {
-    let app = empty_name();
-    let key = empty_name();
-    let metadata = no_metadata();
     Answer {
-        outcome: Outcome::Done,
-        event: Event::NoEvent,
-        app,
-        key,
-        metadata,
+        outcome: Ok(()),
+        event: None,
+        app: empty_name(),
+        key: empty_name(),
+        metadata: no_metadata(),
         count,
         session,
     }
@@ -58,30 +46,24 @@ pub fn idle_answer(session: Session, count: usize) -> Answer
 fn answer_with(next: Session, decision: Decision, count: usize) -> Answer
     ensures { result ≡ answer_with next decision count }
 {
-    let outcome = decision.outcome;
-    let event = decision.event;
-    let app = decision.app;
-    let key = decision.key;
-    let metadata = decision.metadata;
     Answer {
-        outcome,
-        event,
-        app,
-        key,
-        metadata,
+        outcome: decision.outcome,
+        event: decision.event,
+        app: decision.app,
+        key: decision.key,
+        metadata: decision.metadata,
         count,
         session: next,
     }
 }
 
 // The answer where the records fit; else 12, with the session that was handed in.
-pub fn close(session: Session, decision: Decision, sent: Sent) -> Answer
+pub fn close(session: Session, decision: Decision, sent: Option<usize>) -> Answer
     ensures { result ≡ closed session decision sent }
 {
-    let change = decision.change;
-    let next = apply(session, change);
-    if sent.fits {
-        return answer_with(next, decision, sent.count);
+    let next = apply(session, decision.change);
+    match sent {
+        Some(count) => answer_with(next, decision, count),
+        None => refuse(Refusal::NoRoom, session),
     }
-    refuse(Outcome::NoRoom, session)
 }

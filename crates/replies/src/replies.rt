@@ -4,11 +4,11 @@ ghost use Rattle.numbers.specs.Choose.{pick};
 ghost use Rattle.answers.specs.Sending.{sent};
 ghost use Rattle.record.specs.Records.{error_record};
 ghost use Rattle.replies.specs.Finishing.{finishing};
-ghost use Rattle.replies.specs.Replies.{fault_record, reply_records, short};
+ghost use Rattle.replies.specs.Replies.{fault_code, fault_record, fault_text, reply_records, short};
 
 use crate::answer::{Answer, close};
 use answers::{
-    Sent, all_sent, connect_accepted, error_record, ping_response, play_accepted, play_finished,
+    connect_accepted, error_record, ping_response, play_accepted, play_finished,
     publish_accepted, stream_created,
 };
 use record::time_of;
@@ -16,10 +16,34 @@ use session::{CommandFault, Decision, Reply, Session};
 use text::{Name, StreamId};
 
 // An answer without records always fits.
-fn write_nothing(out: &mut [u8]) -> Sent
+#[tactic(auto, using(crate::proofs::RepliesLaws::nothing_sent))]
+fn write_nothing(out: &mut [u8]) -> Option<usize>
     ensures { (result, out.new) ≡ sent [] out.old }
 {
-    all_sent(0)
+    Some(0)
+}
+
+fn fault_code(fault: CommandFault) -> &'static [u8]
+    ensures { result.now ≡ fault_code fault }
+{
+    match fault {
+        CommandFault::PublishFew
+        | CommandFault::PublishUnconnected
+        | CommandFault::PublishUnknownMode => b"NetStream.Publish.Start",
+        CommandFault::PlayFew | CommandFault::PlayUnconnected => b"NetStream.Play.Start",
+    }
+}
+
+fn fault_text(fault: CommandFault) -> &'static [u8]
+    ensures { result.now ≡ fault_text fault }
+{
+    match fault {
+        CommandFault::PublishFew => b"Invalid publish arguments",
+        CommandFault::PublishUnconnected => b"Can't publish before connecting",
+        CommandFault::PublishUnknownMode => b"Invalid publish mode given",
+        CommandFault::PlayFew => b"Invalid play arguments",
+        CommandFault::PlayUnconnected => b"Can't play before connecting",
+    }
 }
 
 // The error record of a command.
@@ -29,64 +53,29 @@ fn write_fault(
     fault: CommandFault,
     time: u32,
     stream: StreamId,
-) -> Sent
+) -> Option<usize>
     ensures { (result, out.new) ≡ sent (fault_record transaction fault time stream.0) out.old }
 {
-    match fault {
-        CommandFault::PublishFew => error_record(
-            out,
-            transaction,
-            b"NetStream.Publish.Start",
-            b"Invalid publish arguments",
-            time,
-            stream,
-        ),
-        CommandFault::PublishUnconnected => error_record(
-            out,
-            transaction,
-            b"NetStream.Publish.Start",
-            b"Can't publish before connecting",
-            time,
-            stream,
-        ),
-        CommandFault::PublishUnknownMode => error_record(
-            out,
-            transaction,
-            b"NetStream.Publish.Start",
-            b"Invalid publish mode given",
-            time,
-            stream,
-        ),
-        CommandFault::PlayFew => error_record(
-            out,
-            transaction,
-            b"NetStream.Play.Start",
-            b"Invalid play arguments",
-            time,
-            stream,
-        ),
-        CommandFault::PlayUnconnected => error_record(
-            out,
-            transaction,
-            b"NetStream.Play.Start",
-            b"Can't play before connecting",
-            time,
-            stream,
-        ),
-    }
+    error_record(
+        out,
+        transaction,
+        fault_code(fault),
+        fault_text(fault),
+        time,
+        stream,
+    )
 }
 
 // Whether neither is over 256 bytes.
+#[tactic(auto, unfolding(crate::specs::Replies::short))]
 pub fn are_short(code: &[u8], description: &[u8]) -> bool
     ensures { result ≡ short code.now description.now }
 {
-    if 256 < code.len() {
-        return false;
-    }
-    description.len() <= 256
+    code.len() <= 256 && description.len() <= 256
 }
 
 // The error record of a reject. Texts that are not short were refused before.
+#[tactic(auto, unfolding(crate::specs::Replies::short))]
 fn write_rejection(
     out: &mut [u8],
     transaction: u64,
@@ -94,7 +83,7 @@ fn write_rejection(
     description: &[u8],
     time: u32,
     stream: StreamId,
-) -> Sent
+) -> Option<usize>
     ensures { (result, out.new) ≡ sent (pick (short code.now description.now) (error_record transaction code.now description.now time stream.0) []) out.old }
 {
     if are_short(code, description) {
@@ -112,7 +101,7 @@ pub fn write_reply(
     code: &[u8],
     description: &[u8],
     time: u32,
-) -> Sent
+) -> Option<usize>
     ensures { (result, out.new) ≡ sent (reply_records reply name version encoding code.now description.now time) out.old }
 {
     match reply {
@@ -146,6 +135,7 @@ pub fn write_reply(
 }
 
 // The records of a decision, and the answer; the texts are those of a reject.
+#[tactic(auto, unfolding(crate::specs::Finishing::finishing, crate::specs::Answers::answered))]
 pub fn finish_call(
     session: Session,
     decision: Decision,
@@ -156,19 +146,15 @@ pub fn finish_call(
 ) -> Answer
     ensures { (result, out.new) ≡ finishing session decision code.now description.now clock out.old }
 {
-    let time = time_of(session.start, clock);
-    let reply = decision.reply;
-    let name = decision.name;
-    let version = session.version;
     let sent = write_reply(
         out,
-        reply,
-        name,
-        version,
+        decision.reply,
+        decision.name,
+        session.version,
         session.encoding,
         code,
         description,
-        time,
+        time_of(session.start, clock),
     );
     close(session, decision, sent)
 }
