@@ -1,3 +1,2 @@
 pub mod Metadata
-pub mod Reading
 pub mod Writing

@@ -2,9 +2,7 @@
 #![tactic(auto)]
 
 mod metadata;
-mod reading;
 mod writing;
 
 pub use metadata::{StreamMetadata, no_metadata};
-pub use reading::{MetadataRead, read_metadata};
 pub use writing::metadata_record;
