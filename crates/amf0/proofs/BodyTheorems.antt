@@ -4,31 +4,29 @@ use Prim.Native.Nat.{ℕ, zero, suc, ◌+◌, ◌≤◌}
 use native.Mathlib.Omega.{arith}
 use mathlib.Core.List.{List, ◌++◌}
 use lib.ListN.{length, drop, drop_of_length-le, length-drop}
+use Rattle.std.specs.Prelude.{Ok, Err}
 use Rattle.numbers.proofs.ChooseLaws.{pick_le}
 use Rattle.numbers.proofs.PlaceLaws.{Bytes, rest_at}
 use Rattle.amf0.specs.Bodies.{checked, row, row_f, verdict}
 use Rattle.amf0.specs.Grammar.{Row, SpellsRow, depth_of, done, value}
-use Rattle.amf0.specs.Skipping.{after_value, skip_v}
-use Rattle.amf0.specs.declared.body.Checked.TheVariants.{Whole}
-use Rattle.amf0.specs.declared.skip.Skip.{Skip}
-use Rattle.amf0.specs.declared.skip.Skip.TheVariants.{Next, Bad, Deep}
-use Rattle.amf0.proofs.BodiesLaws.{next_value, row_end, row_step}
+use Rattle.amf0.specs.Skipping.{Skip, after_value, skip_v}
+use Rattle.amf0.proofs.BodiesLaws.{row_end, row_step}
 use Rattle.amf0.proofs.CompleteLaws.{complete}
-use Rattle.amf0.proofs.SkippingLaws.{Lands, Past, lands_after, lands_more, moves}
+use Rattle.amf0.proofs.SkippingLaws.{Lands, Past, lands_after, lands_more, moves, next_value}
 use Rattle.amf0.proofs.SoundLaws.{Stands, sound}
 
 -- ---- what is a row of values is accepted
 
-rows : (vs : Row) (s b : List ℕ) (at : ℕ) → SpellsRow vs b → depth_of vs ≤ 8 → drop at s ≡ b → verdict (row s at) ≡ Whole
+rows : (vs : Row) (s b : List ℕ) (at : ℕ) → SpellsRow vs b → depth_of vs ≤ 8 → drop at s ≡ b → verdict (row s at) ≡ Ok tt
 unfolding SpellsRow depth_of
 rows done s b at q d e = ap verdict (sym (row_end s at (omega (arith, length-drop at s, ap length (e ∙ q)))))
 rows (value v vs) s b at (c, (p, (f, (k, q)))) d e =
     let h : drop at s ≡ c ++ f = e ∙ q in
-    let n : skip_v s 8 at ≡ Next (at + length c) = complete v s f c 8 at p (omega arith) h in
-    let g = next_value s at (at + length c) n in
+    let n : skip_v s 8 at ≡ Ok (at + length c) = complete v s f c 8 at p (omega arith) h in
+    let g = next_value s 8 at (at + length c) n in
     ap verdict (row_step s at (omega arith) ∙ ap (λ (r : Skip). after_value r (row s)) n) ∙ rows vs s f (at + length c) k (omega arith) (rest_at s c f at h)
 
-pub row_accepted : (vs : Row) (s : List ℕ) → SpellsRow vs s → depth_of vs ≤ 8 → checked s ≡ Whole
+pub row_accepted : (vs : Row) (s : List ℕ) → SpellsRow vs s → depth_of vs ≤ 8 → checked s ≡ Ok tt
 unfolding checked
 row_accepted vs s p d = rows vs s s 0 p d refl
 
@@ -40,9 +38,8 @@ pub record IsRow (s : List ℕ) : Type 0 where
   pub deep : depth_of what ≤ 8
 
 both : (P Q : ℕ → Type 0) (r : Skip) → Lands P r → Lands Q r → Lands (λ n. P n × Q n) r
-both P Q (Next n) p q = (p, q)
-both P Q Bad p q = tt
-both P Q Deep p q = tt
+both P Q (Ok n) p q = (p, q)
+both P Q (Err e) p q = tt
 
 module _ (s : List ℕ) (small : Bytes s) where
   empty_row : (i : ℕ) → length s ≤ i → IsRow (drop i s)
@@ -64,11 +61,10 @@ module _ (s : List ℕ) (small : Bytes s) where
       (both (Stands s 8 i) (Past s i) (skip_v s 8 i) (sound s small 8 i) (moves s 8 i))
       (λ b x. lands_more (λ n. IsRow (drop b s)) (λ n. IsRow (drop i s)) (λ n y. longer_row i b x.0 y) (row_f (skip_v s 8) s k b) (row_sound k b (omega (arith, x.1)))))
 
-  pub accepted_row : checked s ≡ Whole → IsRow s
+  pub accepted_row : checked s ≡ Ok tt → IsRow s
   unfolding checked
   accepted_row = go (row s 0) (row_sound (length s) 0 (omega arith))
     where
-      go : (r : Skip) → Lands (λ n. IsRow (drop 0 s)) r → verdict r ≡ Whole → IsRow s
-      go (Next n) l e = l
-      go Bad l e = let z : ◌≡◌ {A = ℕ} 0 1 = cc in absurd (omega arith)
-      go Deep l e = let z : ◌≡◌ {A = ℕ} 0 1 = cc in absurd (omega arith)
+      go : (r : Skip) → Lands (λ n. IsRow (drop 0 s)) r → verdict r ≡ Ok tt → IsRow s
+      go (Ok n) l e = l
+      go (Err b) l e = cc

@@ -6,21 +6,21 @@ use mathlib.Core.Bool.{not}
 use mathlib.Core.List.{List, [], ◌∷◌, ◌++◌, append_assoc}
 use lib.ListN.{length, drop, get_or, length-append}
 use lib.Dec.{eqb}
+use Rattle.std.specs.Prelude.{Option, Result, Ok, Err}
 use Rattle.numbers.specs.Fields.{bytes_of, field_at}
-use Rattle.numbers.proofs.ChooseLaws.{pick_le}
 use Rattle.numbers.proofs.FieldsLaws.{length_bytes_of}
 use Rattle.numbers.proofs.PlaceLaws.{Bytes, cut_byte, cut_field, cut_text, field_lt, rest_at}
 use Rattle.amf0.specs.Grammar.{Properties, Row, Spells, SpellsProperties, SpellsRow, Value, array, boolean, count, counted, date, depth, depth_in, depth_of, done, long, none, null, number, object, property, strict, string, undefined, value}
-use Rattle.amf0.specs.Reading.{extent, extent_at}
-use Rattle.amf0.specs.Skipping.{after_name, opened, pairs, pairs_f, shut, skip_v, values_f}
-use Rattle.amf0.specs.declared.skip.Skip.{Skip}
-use Rattle.amf0.specs.declared.skip.Skip.TheVariants.{Next, Bad}
+use Rattle.amf0.specs.Reading.{extent, extent_at, reach}
+use Rattle.amf0.specs.Skipping.{Skip, after_name, opened, pairs, pairs_f, shut, skip_v, values_f}
+use Rattle.amf0.specs.declared.error.BodyError.{BodyError}
+use Rattle.amf0.specs.declared.error.BodyError.TheVariants.{NotAmf0}
 use Rattle.amf0.specs.declared.value.Read.{Read}
 use Rattle.amf0.specs.declared.value.Extent.{Extent}
-use Rattle.amf0.specs.declared.value.Extent.TheVariants.{Ends, Pairs, CountedPairs, Values, Wrong}
+use Rattle.amf0.specs.declared.value.Extent.TheVariants.{Ends, Pairs, CountedPairs, Values}
 use Rattle.amf0.specs.declared.value.NameAt.{NameAt}
 use Rattle.amf0.proofs.ReadingLaws.{name_kinds, read_kinds}
-use Rattle.amf0.proofs.SkippingLaws.{Lands, lands_after, lands_more}
+use Rattle.amf0.proofs.SkippingLaws.{Lands, lands_after, lands_more, lands_within}
 
 -- from `at` up to n stands a value; a row of pairs; a row of k values
 pub record Stands (s : List ℕ) (left at n : ℕ) : Type 0 where
@@ -128,18 +128,18 @@ module _ (s : List ℕ) (small : Bytes s) where
           }
 
   -- ---- every kind, where `go` says what becomes of a container
-  module _ (left at : ℕ) (go : Extent → Skip) (ends : (n : ℕ) → Next n ≡ go (Ends n)) (wrong : Bad ≡ go Wrong) where
-    abbrev Good : Extent → Type 0
+  module _ (left at : ℕ) (go : Result Extent BodyError → Skip) (ends : (n : ℕ) → Ok n ≡ go (Ok (Ends n))) (wrong : Err NotAmf0 ≡ go (Err NotAmf0)) where
+    abbrev Good : Result Extent BodyError → Type 0
     Good x = Lands (Stands s left at) (go x)
 
-    end_good : (n : ℕ) → Stands s left at n → Good (Ends n)
+    end_good : (n : ℕ) → Stands s left at n → Good (Ok (Ends n))
     end_good n i = subst (Lands (Stands s left at)) (ends n) i
 
-    by_kind : (get_or s at 0 ≡ 0x03 → at < length s → Good (Pairs (at + 1 + 0))) → (get_or s at 0 ≡ 0x08 → at < length s → Good (CountedPairs (at + 1 + 0)))
-        → (get_or s at 0 ≡ 0x0A → at < length s → Good (Values (at + 1 + 0))) → Good (extent_at s at)
+    by_kind : (get_or s at 0 ≡ 0x03 → at < length s → Good (Ok (Pairs (at + 1 + 0)))) → (get_or s at 0 ≡ 0x08 → at < length s → Good (Ok (CountedPairs (at + 1 + 0))))
+        → (get_or s at 0 ≡ 0x0A → at < length s → Good (Ok (Values (at + 1 + 0)))) → Good (extent_at s at)
     unfolding extent_at Spells depth
     by_kind obj ecm str =
-        read_kinds s at (λ (r : Read). Good (extent r.value r.next)) (subst (Lands (Stands s left at)) wrong tt)
+        read_kinds s at (λ (r : Option Read). Good (reach r)) (subst (Lands (Stands s left at)) wrong tt)
         (λ e h. end_good (at + 1 + 8)
         (leaf left at 0x00 e (number (field_at 8 s (at + 1))) (bytes_of 8 (field_at 8 s (at + 1))) 8 refl (field_lt s small 8 (at + 1), refl) (omega arith) (cut_field s small 8 (at + 1) h) (length_bytes_of 8 (field_at 8 s (at + 1)))))
         (λ e h. end_good (at + 1 + 1)
@@ -201,7 +201,7 @@ module _ (s : List ℕ) (small : Bytes s) where
     unfolding pairs_f Spells depth bytes_of
     pairs_sound zero i = tt
     pairs_sound (suc k) i =
-        name_kinds s i (λ (x : NameAt). Lands (StandsIn s left i) (after_name x f (pairs_f f s k))) tt
+        name_kinds s i (λ (x : Result NameAt BodyError). Lands (StandsIn s left i) (after_name x f (pairs_f f s k))) tt
         (λ e h m. record {
           what = none;
           bytes = 0x00 ∷ 0x00 ∷ 0x09 ∷ [];
@@ -254,12 +254,10 @@ module _ (s : List ℕ) (small : Bytes s) where
       let w : p + 4 ≡ at + 1 + 4 = omega arith in
       by_kind (suc left) at (opened f s) (λ n. refl) refl
       (λ e h. lands_more (StandsIn s left p) (Stands s (suc left) at) (λ n i. object_stands left at 0x03 e refl h n (subst (λ (j : ℕ). StandsIn s left j n) z i)) (pairs f s p) (pairs_sound left f (sound left) (length s) p))
-      (λ e h. pick_le (Lands (Stands s (suc left) at)) _ _ (p + 4) (length s)
-      (λ g. lands_more (StandsIn s left (p + 4)) (Stands s (suc left) at) (λ n i. array_stands left at 0x08 e (omega arith) refl n (subst (λ (j : ℕ). StandsIn s left j n) w i)) (pairs f s (p + 4)) (pairs_sound left f (sound left) (length s) (p + 4)))
-      (λ g. tt))
-      (λ e h. pick_le (Lands (Stands s (suc left) at)) _ _ (p + 4) (length s)
+      (λ e h. lands_within (Stands s (suc left) at) s p 4 (pairs f s)
+      (λ g. lands_more (StandsIn s left (p + 4)) (Stands s (suc left) at) (λ n i. array_stands left at 0x08 e (omega arith) refl n (subst (λ (j : ℕ). StandsIn s left j n) w i)) (pairs f s (p + 4)) (pairs_sound left f (sound left) (length s) (p + 4))))
+      (λ e h. lands_within (Stands s (suc left) at) s p 4 (values_f f (field_at 4 s p))
       (λ g. lands_more (StandsOf s left (field_at 4 s p) (p + 4)) (Stands s (suc left) at)
       (λ n i. strict_stands left at 0x0A e (omega arith) refl n (subst (λ (j : ℕ). StandsOf s left (field_at 4 s j) (at + 1 + 4) n) z (subst (λ (j : ℕ). StandsOf s left (field_at 4 s p) j n) w i)))
       (values_f f (field_at 4 s p) (p + 4))
-      (values_sound left f (sound left) (field_at 4 s p) (p + 4)))
-      (λ g. tt))
+      (values_sound left f (sound left) (field_at 4 s p) (p + 4))))

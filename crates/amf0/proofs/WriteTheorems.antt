@@ -6,15 +6,15 @@ use mathlib.Core.Bool.{Bool, true, false, not}
 use mathlib.Core.List.{List, ◌++◌}
 use lib.ListN.{length, length-append}
 use lib.Dec.{eqb}
+use Rattle.std.specs.Prelude.{None, Some, Ok}
 use Rattle.numbers.specs.Choose.{pick}
 use Rattle.numbers.specs.Fields.{bytes_of}
 use Rattle.numbers.proofs.FieldsLaws.{length_bytes_of}
 use Rattle.amf0.specs.Bodies.{checked, place_of}
 use Rattle.amf0.specs.Grammar.{Properties, Row, Spells, SpellsProperties, SpellsRow, Value, array, boolean, count, counted, date, depth_in, depth_of, done, long, none, null, number, object, property, strict, string, undefined, value}
 use Rattle.amf0.specs.Properties.{last_property}
-use Rattle.amf0.specs.Showing.{Finds, Standing, just, last_of, nothing, nth}
+use Rattle.amf0.specs.Showing.{Finds, Standing, last_of, nth}
 use Rattle.amf0.specs.Writing.{Fits, FitsIn, FitsOf, encode, encode_in, encode_of, room, room_in, room_of, size}
-use Rattle.amf0.specs.declared.body.Checked.TheVariants.{Whole}
 use Rattle.amf0.proofs.BodyTheorems.{row_accepted}
 use Rattle.amf0.proofs.ReadTheorems.{Shows, last_stands, nth_stands, shows}
 
@@ -75,16 +75,16 @@ mutual
 
 -- ---- for every row that we can write
 module _ (vs : Row) (f : FitsOf vs) (d : depth_of vs ≤ 8) where
-  pub written_accepted : checked (encode_of vs) ≡ Whole
+  pub written_accepted : checked (encode_of vs) ≡ Ok tt
   written_accepted = row_accepted vs (encode_of vs) (spelled_of vs f) d
 
-  pub written_stands : (n : ℕ) (v : Value) → nth n vs ≡ just v → Standing (encode_of vs) (place_of (encode_of vs) n) v
+  pub written_stands : (n : ℕ) (v : Value) → nth n vs ≡ Some v → Standing (encode_of vs) (place_of (encode_of vs) n) v
   written_stands n v e = nth_stands vs n (encode_of vs) v (spelled_of vs f) d e
 
-  pub written_reads_back : (n : ℕ) (v : Value) → nth n vs ≡ just v → Shows (encode_of vs) (place_of (encode_of vs) n) v
+  pub written_reads_back : (n : ℕ) (v : Value) → nth n vs ≡ Some v → Shows (encode_of vs) (place_of (encode_of vs) n) v
   written_reads_back n v e = let i = written_stands n v e in shows v (encode_of vs) i.rest i.bytes (place_of (encode_of vs) n) i.spells i.here
 
   -- and of an object in it, the last property of a name
-  pub written_property : (n : ℕ) (ps : Properties) (w : List ℕ) → nth n vs ≡ just (object ps) → depth_in ps ≤ 8
-      → Finds (encode_of vs) (last_property (encode_of vs) (place_of (encode_of vs) n) w) (last_of w ps nothing)
+  pub written_property : (n : ℕ) (ps : Properties) (w : List ℕ) → nth n vs ≡ Some (object ps) → depth_in ps ≤ 8
+      → Finds (encode_of vs) (last_property (encode_of vs) (place_of (encode_of vs) n) w) (last_of w ps None)
   written_property n ps w e h = let i = written_stands n (object ps) e in last_stands ps (encode_of vs) i.rest i.bytes w (place_of (encode_of vs) n) i.spells h i.here

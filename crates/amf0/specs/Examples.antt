@@ -1,17 +1,15 @@
 -- Worked examples, computed: one table and one claim.
-use Rattle.std.specs.Prelude.{◌≡◌, refl, ℕ, zero, suc, true, false, List, [], ◌∷◌, length, take}
+use Rattle.std.specs.Prelude.{◌≡◌, refl, ℕ, zero, suc, true, false, List, [], ◌∷◌, length, take, Option, Some, None, Result, Ok, Err}
 use Rattle.numbers.specs.Fields.{bytes_of, field_at}
 use Rattle.text.specs.Words.{same, text}
 use Rattle.amf0.specs.Bodies.{checked, place_of, row_f}
 use Rattle.amf0.specs.Grammar.{Value, array, boolean, count, date, done, long, none, null, number, object, property, strict, string, undefined, value}
-use Rattle.amf0.specs.Properties.{better, last, last_f, last_property}
-use Rattle.amf0.specs.Reading.{by_marker, extent_at, held, name_at, read_at, text_at}
+use Rattle.amf0.specs.Properties.{better, last, last_f, last_property, pair_at}
+use Rattle.amf0.specs.Reading.{by_marker, extent_at, held, name_at, past, read_at, text_at}
 use Rattle.amf0.specs.Skipping.{pairs_f, skip_v, values_f}
 use Rattle.amf0.specs.Writing.{encode, encode_of, size}
-use Rattle.amf0.specs.declared.body.Checked.{Checked}
-use Rattle.amf0.specs.declared.body.Checked.TheVariants.{Whole, Bad, Deep}
-use Rattle.amf0.specs.declared.property.Found.{Found}
-use Rattle.amf0.specs.declared.property.Found.TheVariants.{At, Missing}
+use Rattle.amf0.specs.declared.error.BodyError.{BodyError}
+use Rattle.amf0.specs.declared.error.BodyError.TheVariants.{NotAmf0, TooDeep}
 
 -- a value inside n objects
 unfoldable pub nested : ℕ → Value → Value
@@ -38,9 +36,9 @@ unfoldable pub twice : List ℕ
 twice = encode (object (property (text "a") null (property (text "b") null (property (text "a") (boolean true) none))))
 
 pub record Answers : Type 0 where
-  pub bodies : List Checked
+  pub bodies : List (Result Unit BodyError)
   pub places : List ℕ
-  pub found : List Found
+  pub found : List (Option ℕ)
 
 pub answers : Answers
 answers =
@@ -65,9 +63,9 @@ answers =
 
 pub answers_are : answers
     ≡ record {
-      bodies = Whole ∷ Whole ∷ Whole ∷ Deep ∷ Deep ∷ Bad ∷ Bad ∷ Bad ∷ Whole ∷ Bad ∷ Whole ∷ Bad ∷ [];
+      bodies = Ok tt ∷ Ok tt ∷ Ok tt ∷ Err TooDeep ∷ Err TooDeep ∷ Err NotAmf0 ∷ Err NotAmf0 ∷ Err NotAmf0 ∷ Ok tt ∷ Err NotAmf0 ∷ Ok tt ∷ Err NotAmf0 ∷ [];
       places = 18 ∷ 80 ∷ 89 ∷ 89 ∷ [];
-      found = At 12 ∷ At 8 ∷ Missing ∷ Missing ∷ [];
+      found = Some 12 ∷ Some 8 ∷ None ∷ None ∷ [];
     }
-unfolding answers each twice nested checked place_of row_f last_property last last_f better same skip_v pairs_f values_f extent_at read_at by_marker held text_at name_at field_at encode size count bytes_of
+unfolding answers each twice nested checked place_of row_f last_property last last_f pair_at better same skip_v pairs_f values_f extent_at read_at by_marker past name_at field_at encode size count bytes_of
 answers_are = refl

@@ -1,48 +1,46 @@
 -- "If a name occurs twice, the last one alone counts, whatever its type."
-use Rattle.std.specs.Prelude.{ℕ, zero, suc, ◌+◌, ◌-◌, List, length, take, drop}
+use Rattle.std.specs.Prelude.{ℕ, zero, suc, ◌+◌, ◌-◌, List, length, take, drop, Option, Some, None, option_map, Result, Ok, Err}
+use Rattle.std.specs.Result.{result_ok}
 use Rattle.numbers.specs.Choose.{pick}
 use Rattle.text.specs.Words.{same}
 use Rattle.amf0.specs.Reading.{extent_at, name_at}
-use Rattle.amf0.specs.Skipping.{skip_v}
-use Rattle.amf0.specs.declared.skip.Skip.{Skip}
-use Rattle.amf0.specs.declared.skip.Skip.TheVariants.{Next, Bad, Deep}
+use Rattle.amf0.specs.Skipping.{Skip, skip_v}
+use Rattle.amf0.specs.declared.error.BodyError.{BodyError}
 use Rattle.amf0.specs.declared.value.Extent.{Extent}
-use Rattle.amf0.specs.declared.value.Extent.TheVariants.{Ends, Pairs, CountedPairs, Values, Wrong}
+use Rattle.amf0.specs.declared.value.Extent.TheVariants.{Pairs}
 use Rattle.amf0.specs.declared.value.NameAt.{NameAt}
-use Rattle.amf0.specs.declared.value.NameAt.TheVariants.{End, Value, Cut}
-use Rattle.amf0.specs.declared.property.Found.{Found}
-use Rattle.amf0.specs.declared.property.Found.TheVariants.{At, Missing}
+use Rattle.amf0.specs.declared.value.NameAt.TheVariants.{End, Value}
 
 -- the name between i and its value at v is w: v, else what was found before
-unfoldable pub better : List ℕ → List ℕ → ℕ → ℕ → Found → Found
-better s w i v best = pick (same (take (v - (i + 2)) (drop (i + 2) s)) w) (At v) best
+unfoldable pub better : List ℕ → List ℕ → ℕ → ℕ → Option ℕ → Option ℕ
+better s w i v best = pick (same (take (v - (i + 2)) (drop (i + 2) s)) w) (Some v) best
 
-abbrev pub on_value : Skip → Found → (ℕ → Found → Found) → Found → Found
-on_value (Next a) b go best = go a b
-on_value Bad b go best = best
-on_value Deep b go best = best
+-- a name's value, and the place behind it; f skips a value
+abbrev pub pair_of : (ℕ → Skip) → Result NameAt BodyError → Option (ℕ × ℕ)
+pair_of f (Ok (Value v)) = option_map (λ next. (v, next)) (result_ok (f v))
+pair_of f x = None
 
-abbrev pub on_name : NameAt → (ℕ → Skip) → (ℕ → Found) → (ℕ → Found → Found) → Found → Found
-on_name (End n) f b go best = best
-on_name (Value v) f b go best = on_value (f v) (b v) go best
-on_name Cut f b go best = best
+-- the pair that begins at i, if a whole one does
+unfoldable pub pair_at : (ℕ → Skip) → List ℕ → ℕ → Option (ℕ × ℕ)
+pair_at f s i = pair_of f (name_at s i)
+
+abbrev pub on_pair : Option (ℕ × ℕ) → (ℕ → ℕ → Option ℕ) → Option ℕ → Option ℕ
+on_pair (Some p) go best = go p.0 p.1
+on_pair None go best = best
 
 -- among at most k pairs from i on, where `best` was found before them
-unfoldable pub last_f : (ℕ → Skip) → List ℕ → List ℕ → ℕ → ℕ → Found → Found
+unfoldable pub last_f : (ℕ → Skip) → List ℕ → List ℕ → ℕ → ℕ → Option ℕ → Option ℕ
 last_f f s w zero i best = best
-last_f f s w (suc k) i best = on_name (name_at s i) f (λ v. better s w i v best) (last_f f s w k) best
+last_f f s w (suc k) i best = on_pair (pair_at f s i) (λ v next. last_f f s w k next (better s w i v best)) best
 
-unfoldable pub last : List ℕ → List ℕ → ℕ → Found → Found
+unfoldable pub last : List ℕ → List ℕ → ℕ → Option ℕ → Option ℕ
 last s w i best = last_f (skip_v s 8) s w (length s) i best
 
 -- "only 03 has properties"
-abbrev pub inside : Extent → (ℕ → Found) → Found
-inside (Pairs p) go = go p
-inside (Ends n) go = Missing
-inside (CountedPairs p) go = Missing
-inside (Values p) go = Missing
-inside Wrong go = Missing
+abbrev pub inside : Result Extent BodyError → (ℕ → Option ℕ) → Option ℕ
+inside (Ok (Pairs p)) go = go p
+inside x go = None
 
 -- where the value of the last property w of the value at `at` stands
-unfoldable pub last_property : List ℕ → ℕ → List ℕ → Found
-last_property s at w = inside (extent_at s at) (λ p. last s w p Missing)
+unfoldable pub last_property : List ℕ → ℕ → List ℕ → Option ℕ
+last_property s at w = inside (extent_at s at) (λ p. last s w p None)

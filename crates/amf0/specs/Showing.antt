@@ -1,5 +1,5 @@
 -- What the reading functions say of a value of the grammar.
-use Rattle.std.specs.Prelude.{◌≡◌, ℕ, zero, suc, ◌+◌, List, ◌++◌, length, take, drop}
+use Rattle.std.specs.Prelude.{◌≡◌, ℕ, zero, suc, ◌+◌, List, ◌++◌, length, take, drop, Option, Some, None}
 use Rattle.std.specs.Float.{binary64}
 use Rattle.std.specs.Float.Ieee.{of_bits}
 use Rattle.numbers.specs.Choose.{pick}
@@ -8,8 +8,6 @@ use Rattle.text.specs.Words.{same}
 use Rattle.amf0.specs.Grammar.{Properties, Row, Spells, Value, array, boolean, date, done, long, none, null, number, object, property, strict, string, undefined, value}
 use Rattle.amf0.specs.declared.plain.Plain.{Plain}
 use Rattle.amf0.specs.declared.plain.Plain.TheVariants.{Bits, Boolean as Truth, Text as Part, Object as Properly, Other}
-use Rattle.amf0.specs.declared.property.Found.{Found}
-use Rattle.amf0.specs.declared.property.Found.TheVariants.{At, Missing}
 use Rattle.amf0.specs.declared.value.Amf0Value.{Amf0Value}
 use Rattle.amf0.specs.declared.value.Amf0Value.TheVariants.{Number, Boolean, Text, Object, Null, Undefined, EcmaArray, StrictArray, Date, LongText}
 
@@ -32,41 +30,25 @@ plain_shown (number n) at = Bits n
 plain_shown (boolean t) at = Truth t
 plain_shown (string t) at = Part (at + 1 + 2) (length t)
 plain_shown (object ps) at = Properly
-plain_shown null at = Other
-plain_shown undefined at = Other
-plain_shown (array ps) at = Other
-plain_shown (strict vs) at = Other
-plain_shown (date n z) at = Other
-plain_shown (long t) at = Other
+plain_shown v at = Other
 
 -- and what stands at the places that it names: a number's bits, a text's bytes
 abbrev pub Content : List ℕ → ℕ → Value → Type 0
 Content s at (number n) = field_at 8 s (at + 1) ≡ n
-Content s at (boolean t) = Unit {0}
 Content s at (string t) = take (length t) (drop (at + 1 + 2) s) ≡ t
-Content s at (object ps) = Unit {0}
-Content s at null = Unit {0}
-Content s at undefined = Unit {0}
-Content s at (array ps) = Unit {0}
-Content s at (strict vs) = Unit {0}
-Content s at (date n z) = Unit {0}
 Content s at (long t) = take (length t) (drop (at + 1 + 4) s) ≡ t
-
--- a value, or none
-pub data Maybe : Type 0 where
-  nothing : Maybe
-  just : Value → Maybe
+Content s at v = Unit {0}
 
 -- the n-th value of a row, counted from 0
-unfoldable pub nth : ℕ → Row → Maybe
-nth n done = nothing
-nth zero (value v vs) = just v
+unfoldable pub nth : ℕ → Row → Option Value
+nth n done = None
+nth zero (value v vs) = Some v
 nth (suc n) (value v vs) = nth n vs
 
 -- the value of the last property w, or what was found before
-unfoldable pub last_of : List ℕ → Properties → Maybe → Maybe
+unfoldable pub last_of : List ℕ → Properties → Option Value → Option Value
 last_of w none best = best
-last_of w (property t v ps) best = last_of w ps (pick (same t w) (just v) best)
+last_of w (property t v ps) best = last_of w ps (pick (same t w) (Some v) best)
 
 -- the bytes at p stand for the value v
 pub record Standing (s : List ℕ) (p : ℕ) (v : Value) : Type 0 where
@@ -76,8 +58,7 @@ pub record Standing (s : List ℕ) (p : ℕ) (v : Value) : Type 0 where
   pub here : drop p s ≡ bytes ++ rest
 
 -- a place that was found is that of the value, or neither is there
-abbrev pub Finds : List ℕ → Found → Maybe → Type 0
-Finds s (At p) (just v) = Standing s p v
-Finds s (At p) nothing = ⊥
-Finds s Missing (just v) = ⊥
-Finds s Missing nothing = Unit {0}
+abbrev pub Finds : List ℕ → Option ℕ → Option Value → Type 0
+Finds s (Some p) (Some v) = Standing s p v
+Finds s None None = Unit {0}
+Finds s p v = ⊥

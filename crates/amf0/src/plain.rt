@@ -2,18 +2,17 @@
 ghost use Rattle.std.specs.Prelude.{◌≡◌};
 ghost use Rattle.amf0.specs.Plain.{plain, plain_at, property_at};
 
-use crate::property::{Found, last_property};
+use crate::property::last_property;
 use crate::value::{Amf0Value, read_value};
 use numbers::u64_at;
 
-#[derive(Clone, Copy)]
+#[derive(Clone, Copy, Debug, PartialEq, Eq)]
 pub enum Plain {
     Bits(u64),
     Boolean(bool),
     Text { start: usize, len: usize },
     Object,
     Other,
-    NoValue,
 }
 
 fn plain_of(value: Amf0Value, bits: u64) -> Plain
@@ -23,34 +22,23 @@ fn plain_of(value: Amf0Value, bits: u64) -> Plain
         Amf0Value::Number(_) => Plain::Bits(bits),
         Amf0Value::Boolean(b) => Plain::Boolean(b),
         Amf0Value::Text { start, len } => Plain::Text { start, len },
-        Amf0Value::Object { start: _ } => Plain::Object,
-        Amf0Value::Null => Plain::Other,
-        Amf0Value::Undefined => Plain::Other,
-        Amf0Value::EcmaArray { start: _ } => Plain::Other,
-        Amf0Value::StrictArray { start: _ } => Plain::Other,
-        Amf0Value::Date => Plain::Other,
-        Amf0Value::LongText { start: _, len: _ } => Plain::Other,
-        Amf0Value::NoValue => Plain::NoValue,
+        Amf0Value::Object { .. } => Plain::Object,
+        _ => Plain::Other,
     }
 }
 
-pub fn plain_at(body: &[u8], at: usize) -> Plain
+#[tactic(auto, using(crate::proofs::SkippingLaws::read_inside), unfolding(crate::specs::Plain::plain_at))]
+pub fn plain_at(body: &[u8], at: usize) -> Option<Plain>
     ensures { result ≡ plain_at body.now at }
 {
-    if body.len() <= at {
-        return Plain::NoValue;
-    }
-    let read = read_value(body, at);
-    let value = read.value;
-    plain_of(value, u64_at(body, at + 1))
+    let read = read_value(body, at)?;
+    Some(plain_of(read.value, u64_at(body, at + 1)))
 }
 
 // The last property of a name in the value at `at`.
-pub fn plain_property(body: &[u8], at: usize, word: &[u8]) -> Plain
+#[tactic(auto, unfolding(crate::specs::Plain::property_at))]
+pub fn plain_property(body: &[u8], at: usize, word: &[u8]) -> Option<Plain>
     ensures { result ≡ property_at body.now at word.now }
 {
-    match last_property(body, at, word) {
-        Found::At(p) => plain_at(body, p),
-        Found::Missing => Plain::NoValue,
-    }
+    plain_at(body, last_property(body, at, word)?)
 }

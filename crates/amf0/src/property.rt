@@ -1,66 +1,46 @@
 // The last property of a name in an object.
-ghost use Rattle.std.specs.Prelude.{◌≡◌, ◌+◌, ◌≤◌, length};
-ghost use Rattle.amf0.specs.Properties.{better, last, last_property};
-ghost use Rattle.amf0.specs.declared.property.Found.TheVariants.{Missing};
+ghost use Rattle.std.specs.Prelude.{◌≡◌, None};
+ghost use Rattle.amf0.specs.Properties.{last, last_property, pair_at};
+ghost use Rattle.amf0.specs.Skipping.{skip_v};
 
-use crate::skip::{NESTED, Skip, skip_value};
+use crate::skip::{NESTED, skip_value};
 use crate::value::{Extent, NameAt, extent_at, read_name};
 use text::is_word;
 
-// Where the property's value stands.
-#[derive(Clone, Copy)]
-pub enum Found {
-    At(usize),
-    Missing,
+// The pair that begins at i: where its value stands, and the place behind it.
+#[tactic(auto, unfolding(crate::specs::Properties::pair_at))]
+fn pair_at(body: &[u8], i: usize) -> Option<(usize, usize)>
+    ensures { result ≡ pair_at (skip_v body.now 8) body.now i }
+{
+    match read_name(body, i).ok()? {
+        NameAt::Value(v) => Some((v, skip_value(body, v, NESTED).ok()?)),
+        NameAt::End(_) => None,
+    }
 }
 
-// The name between i and its value at v is the word: v, else what was found before.
-fn better_found(body: &[u8], word: &[u8], i: usize, v: usize, best: Found) -> Found
-    requires { (i + 2 ≤ v) × (v ≤ length body.now) }
-    ensures { result ≡ better body.now word.now i v best }
+// Among the pairs from `at` on: where the value of the last one of that name stands.
+#[tactic(auto, using(crate::proofs::PropertyLaws::lasts))]
+fn last_pair(body: &[u8], word: &[u8], at: usize) -> Option<usize>
+    ensures { result ≡ last body.now word.now at None }
 {
-    let a = i + 2;
-    if is_word(&body[a..v], word) {
-        return Found::At(v);
+    let mut i = at;
+    let mut best = None;
+    while let Some((v, next)) = pair_at(body, i) {
+        if is_word(&body[i + 2..v], word) {
+            best = Some(v);
+        }
+        i = next;
     }
     best
 }
 
-// Among the pairs from `at` on.
-fn last_pair(body: &[u8], word: &[u8], at: usize) -> Found
-    requires { at ≤ length body.now }
-    ensures { result ≡ last body.now word.now at Missing }
-{
-    let mut i = at;
-    let mut best = Found::Missing;
-    loop {
-        match read_name(body, i) {
-            NameAt::End(_) => return best,
-            NameAt::Cut => return best,
-            NameAt::Value(v) => {
-                let b = better_found(body, word, i, v, best);
-                match skip_value(body, v, NESTED) {
-                    Skip::Next(a) => {
-                        i = a;
-                        best = b;
-                    }
-                    Skip::Bad => return best,
-                    Skip::Deep => return best,
-                }
-            }
-        }
-    }
-}
-
 // In the value at `at`, if that has properties: only an object has.
-pub fn last_property(body: &[u8], at: usize, word: &[u8]) -> Found
+#[tactic(auto, unfolding(crate::specs::Properties::last_property))]
+pub fn last_property(body: &[u8], at: usize, word: &[u8]) -> Option<usize>
     ensures { result ≡ last_property body.now at word.now }
 {
     match extent_at(body, at) {
-        Extent::Pairs(p) => last_pair(body, word, p),
-        Extent::Ends(_) => Found::Missing,
-        Extent::CountedPairs(_) => Found::Missing,
-        Extent::Values(_) => Found::Missing,
-        Extent::Wrong => Found::Missing,
+        Ok(Extent::Pairs(p)) => last_pair(body, word, p),
+        _ => None,
     }
 }

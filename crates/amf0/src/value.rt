@@ -1,12 +1,13 @@
 // What stands at a place of a body: a value's marker and what follows it.
-ghost use Rattle.std.specs.Prelude.{◌≡◌, ◌≤◌, length};
+ghost use Rattle.std.specs.Prelude.{◌≡◌};
 ghost use Rattle.amf0.specs.declared.value.Amf0Value.TheVariants.{LongText, Text};
-ghost use Rattle.amf0.specs.Reading.{by_marker, extent, extent_at, held, name_at, nothing, read_at, text_at};
+ghost use Rattle.amf0.specs.Reading.{by_marker, extent, extent_at, held, name_at, past, read_at, text_at};
 
+use crate::error::BodyError;
 use numbers::{byte_at, f64_of, u16_at, u32_at, u64_at};
 
 // A value with its places in the body. Echoed number bits are read again, as eight bytes past the marker.
-#[derive(Clone, Copy)]
+#[derive(Clone, Copy, Debug, PartialEq)]
 pub enum Amf0Value {
     Number(f64),
     Boolean(bool),
@@ -18,83 +19,71 @@ pub enum Amf0Value {
     StrictArray { start: usize },
     Date,
     LongText { start: usize, len: usize },
-    NoValue,
 }
 
 // `next` is where the value ends, or of a container where what it holds begins, its count if it has one.
-#[derive(Clone, Copy)]
+#[derive(Clone, Copy, Debug, PartialEq)]
 pub struct Read {
     pub value: Amf0Value,
     pub next: usize,
 }
 
 // How far what was read goes: it ends at a place, or holds something from a place on.
-#[derive(Clone, Copy)]
+#[derive(Clone, Copy, Debug, PartialEq, Eq)]
 pub enum Extent {
     Ends(usize),
     Pairs(usize),
     CountedPairs(usize),
     Values(usize),
-    Wrong,
 }
 
 // What stands where a property's name is expected.
-#[derive(Clone, Copy)]
+#[derive(Clone, Copy, Debug, PartialEq, Eq)]
 pub enum NameAt {
     End(usize),
     Value(usize),
-    Cut,
 }
 
-fn no_value() -> Read
-    ensures { result ≡ nothing }
+// The place behind the n bytes from p on, if they are in the body.
+#[tactic(auto, using(crate::proofs::ReadingLaws::past_yes, crate::proofs::ReadingLaws::past_no))]
+pub fn past(body: &[u8], p: usize, n: usize) -> Option<usize>
+    ensures { result ≡ past body.now p n }
 {
-    Read {
-        value: Amf0Value::NoValue,
-        next: 0,
+    if n <= body.len().checked_sub(p)? {
+        return Some(p + n);
     }
+    None
 }
 
 // The value, if the n bytes from p on are in the body.
-fn hold(body: &[u8], p: usize, n: usize, value: Amf0Value) -> Read
-    requires { p ≤ length body.now }
+fn hold(body: &[u8], p: usize, n: usize, value: Amf0Value) -> Option<Read>
     ensures { result ≡ held body.now p n value }
 {
-    if n <= body.len() - p {
-        return Read { value, next: p + n };
-    }
-    no_value()
+    let next = past(body, p, n)?;
+    Some(Read { value, next })
 }
 
 // A text after its length of two bytes. Every string is read here.
-fn read_text(body: &[u8], p: usize) -> Read
-    requires { p ≤ length body.now }
+fn read_text(body: &[u8], p: usize) -> Option<Read>
     ensures { result ≡ text_at 2 Text body.now p }
 {
-    if body.len() - p < 2 {
-        return no_value();
-    }
+    let start = past(body, p, 2)?;
     let len = u16_at(body, p) as usize;
-    let start = p + 2;
     hold(body, start, len, Amf0Value::Text { start, len })
 }
 
 // A long string after its length of four bytes.
-fn read_long_text(body: &[u8], p: usize) -> Read
-    requires { p ≤ length body.now }
+fn read_long_text(body: &[u8], p: usize) -> Option<Read>
     ensures { result ≡ text_at 4 LongText body.now p }
 {
-    if body.len() - p < 4 {
-        return no_value();
-    }
+    let start = past(body, p, 4)?;
     let len = u32_at(body, p) as usize;
-    let start = p + 4;
     hold(body, start, len, Amf0Value::LongText { start, len })
 }
 
 // What the marker m says of the bytes from p on, which follow it.
-fn read_marked(body: &[u8], p: usize, m: u8) -> Read
-    requires { p ≤ length body.now }
+#[tactic(auto, unfolding(crate::specs::Reading::by_marker))]
+fn read_marked(body: &[u8], p: usize, m: u8) -> Option<Read>
     ensures { result ≡ by_marker body.now p m }
 {
     match m {
@@ -108,18 +97,17 @@ fn read_marked(body: &[u8], p: usize, m: u8) -> Read
         0x0A => hold(body, p, 0, Amf0Value::StrictArray { start: p }),
         0x0B => hold(body, p, 10, Amf0Value::Date),
         0x0C => read_long_text(body, p),
-        _ => no_value(),
+        _ => None,
     }
 }
 
 // What stands at a place: a value, or none where the body has ended, the marker is unknown or the value is cut.
-pub fn read_value(body: &[u8], at: usize) -> Read
+#[tactic(auto, using(crate::proofs::ReadingLaws::past_in), unfolding(crate::specs::Reading::read_at))]
+pub fn read_value(body: &[u8], at: usize) -> Option<Read>
     ensures { result ≡ read_at body.now at }
 {
-    if at < body.len() {
-        return read_marked(body, at + 1, body[at]);
-    }
-    no_value()
+    let p = past(body, at, 1)?;
+    read_marked(body, p, body[at])
 }
 
 // How far it goes. Whether a value holds pairs is asked here alone.
@@ -127,51 +115,35 @@ fn extent_of(value: Amf0Value, next: usize) -> Extent
     ensures { result ≡ extent value next }
 {
     match value {
-        Amf0Value::Number(_) => Extent::Ends(next),
-        Amf0Value::Boolean(_) => Extent::Ends(next),
-        Amf0Value::Text { start: _, len: _ } => Extent::Ends(next),
-        Amf0Value::Object { start: _ } => Extent::Pairs(next),
-        Amf0Value::Null => Extent::Ends(next),
-        Amf0Value::Undefined => Extent::Ends(next),
-        Amf0Value::EcmaArray { start: _ } => Extent::CountedPairs(next),
-        Amf0Value::StrictArray { start: _ } => Extent::Values(next),
-        Amf0Value::Date => Extent::Ends(next),
-        Amf0Value::LongText { start: _, len: _ } => Extent::Ends(next),
-        Amf0Value::NoValue => Extent::Wrong,
+        Amf0Value::Object { .. } => Extent::Pairs(next),
+        Amf0Value::EcmaArray { .. } => Extent::CountedPairs(next),
+        Amf0Value::StrictArray { .. } => Extent::Values(next),
+        _ => Extent::Ends(next),
     }
 }
 
-pub fn extent_at(body: &[u8], at: usize) -> Extent
+#[tactic(auto, unfolding(crate::specs::Reading::extent_at))]
+pub fn extent_at(body: &[u8], at: usize) -> Result<Extent, BodyError>
     ensures { result ≡ extent_at body.now at }
 {
-    let read = read_value(body, at);
-    let value = read.value;
-    extent_of(value, read.next)
+    let read = read_value(body, at).ok_or(BodyError::NotAmf0)?;
+    Ok(extent_of(read.value, read.next))
 }
 
 // A property's name at i, or the end mark. Every name is read here.
-pub fn read_name(body: &[u8], i: usize) -> NameAt
+#[tactic(auto, using(crate::proofs::ReadingLaws::past_in), unfolding(crate::specs::Reading::name_at))]
+pub fn read_name(body: &[u8], i: usize) -> Result<NameAt, BodyError>
     ensures { result ≡ name_at body.now i }
 {
-    if body.len() < i {
-        return NameAt::Cut;
-    }
-    if body.len() - i < 2 {
-        return NameAt::Cut;
-    }
+    let v = past(body, i, 2).ok_or(BodyError::NotAmf0)?;
     let n = u16_at(body, i) as usize;
-    let v = i + 2;
-    if n == 0 {
-        if body.len() <= v {
-            return NameAt::Cut;
-        }
-        if body[v] == 9 {
-            return NameAt::End(v + 1);
-        }
-        return NameAt::Cut;
+    if n > 0 {
+        let end = past(body, v, n).ok_or(BodyError::NotAmf0)?;
+        return Ok(NameAt::Value(end));
     }
-    if n <= body.len() - v {
-        return NameAt::Value(v + n);
+    let end = past(body, v, 1).ok_or(BodyError::NotAmf0)?;
+    if body[v] != 9 {
+        return Err(BodyError::NotAmf0);
     }
-    NameAt::Cut
+    Ok(NameAt::End(end))
 }

@@ -1,6 +1,7 @@
 use mathlib.Core.Path.{◌≡◌}
 use Prim.Native.Nat.{◌+◌, ◌-◌, ◌*◌, ◌≤◌}
 use lib.ListN.{length}
+use Rattle.std.specs.Prelude.{Ok}
 use Rattle.amf0.specs.Skipping.{pairs, skip_v, values_f}
 use Rattle.amf0.proofs.skip.+skip.Given as goal
 
@@ -16,13 +17,11 @@ decreases-skip_values l = 2 * l.left + 1
 
 -- what is left to skip gives the answer
 abbrev pub invariant-skip_pairs-loop-n : goal.invariant-skip_pairs-loop-n
-invariant-skip_pairs-loop-n l = (l.i ≤ length l.body) × (pairs (skip_v l.body l.left) l.body l.i ≡ pairs (skip_v l.body l.left) l.body l.at)
+invariant-skip_pairs-loop-n l = pairs (skip_v l.body l.left) l.body l.i ≡ pairs (skip_v l.body l.left) l.body l.at
 
 abbrev pub decreases-skip_pairs-loop-n : goal.decreases-skip_pairs-loop-n
 decreases-skip_pairs-loop-n l = length l.body - l.i
 
-abbrev pub invariant-skip_values-loop-k : goal.invariant-skip_values-loop-k
-invariant-skip_values-loop-k l = (l.k ≤ l.count) × (values_f (skip_v l.body l.left) l.k l.i ≡ values_f (skip_v l.body l.left) l.count l.at)
-
-abbrev pub decreases-skip_values-loop-k : goal.decreases-skip_values-loop-k
-decreases-skip_values-loop-k l = l.k
+-- the values so far are skipped up to i
+abbrev pub invariant-skip_values-loop : goal.invariant-skip_values-loop
+invariant-skip_values-loop l = (l.counter ≤ l.count) × (values_f (skip_v l.body l.left) l.counter l.at ≡ Ok l.i)
