@@ -1,1 +1,3 @@
 pub mod WritingLaws
+pub mod BackTheorems
+pub mod EmptyTheorems

@@ -115,19 +115,20 @@ pub eleven_short : (m : StreamMetadata) → IfSome m.encoder (λ e. length (text
 unfolding listed
 eleven_short m h =
     simp length-append
-    (omega
-    (arith,
-    whole_short (text "width") m.video_width,
-    whole_short (text "height") m.video_height,
-    whole_short (text "videocodecid") m.video_codec_id,
-    whole_short (text "videodatarate") m.video_bitrate_kbps,
-    rate_short (text "framerate") m.video_frame_rate,
-    whole_short (text "audiocodecid") m.audio_codec_id,
-    whole_short (text "audiodatarate") m.audio_bitrate_kbps,
-    whole_short (text "audiosamplerate") m.audio_sample_rate,
-    whole_short (text "audiochannels") m.audio_channels,
-    flag_short (text "stereo") m.audio_is_stereo,
-    named_short (text "encoder") m.encoder h))
+    (omega (
+      arith,
+      whole_short (text "width") m.video_width,
+      whole_short (text "height") m.video_height,
+      whole_short (text "videocodecid") m.video_codec_id,
+      whole_short (text "videodatarate") m.video_bitrate_kbps,
+      rate_short (text "framerate") m.video_frame_rate,
+      whole_short (text "audiocodecid") m.audio_codec_id,
+      whole_short (text "audiodatarate") m.audio_bitrate_kbps,
+      whole_short (text "audiosamplerate") m.audio_sample_rate,
+      whole_short (text "audiochannels") m.audio_channels,
+      flag_short (text "stereo") m.audio_is_stereo,
+      named_short (text "encoder") m.encoder h,
+    ))
 
 -- ---- the object, the row and the record
 set_pieces : (xs : List Listed) → encode_in (set_ones xs) ≡ pieces xs ++ encode_in none

@@ -1,2 +1,3 @@
 pub mod Metadata
+pub mod Reading
 pub mod Writing

@@ -2,7 +2,9 @@
 #![tactic(auto)]
 
 mod metadata;
+mod reading;
 mod writing;
 
 pub use metadata::{StreamMetadata, no_metadata};
+pub use reading::{LongEncoder, read_metadata};
 pub use writing::metadata_record;
