@@ -1,15 +1,15 @@
 -- What `send_metadata` writes, the metadata reader reads back the same.
-use mathlib.Core.Path.{◌≡◌, refl, sym, ap, ◌∙◌, subst}
+use mathlib.Core.Path.{◌≡◌, refl, ap, ◌∙◌, subst}
 use Prim.Native.Nat.{ℕ, ◌≤◌, ◌<◌, ◌^◌}
 use native.Mathlib.Omega.{arith}
 use mathlib.Core.Bool.{Bool, true, false}
 use mathlib.Core.List.{List, [], ◌∷◌}
 use lib.Dec.{T, lit≤}
 use Rattle.std.proofs.Common.{rules}
-use lib.Ieee.{Float, binary32, binary64, fits, to_bits}
+use lib.Ieee.{Float, binary32, fits}
 use lib.ListN.{length}
 use borrow.Author.Tests.{le-ltb}
-use Rattle.std.specs.Prelude.{Option, Some, None, IfSome, Result, Ok, Err, option_and_then, option_map}
+use Rattle.std.specs.Prelude.{Option, Some, None, IfSome, Ok, option_and_then, option_map}
 use Rattle.numbers.specs.Choose.{pick}
 use Rattle.numbers.proofs.ExactLaws.{single_back, single_lt}
 use Rattle.numbers.proofs.WholeLaws.{double_lt, whole_back}
@@ -17,7 +17,7 @@ use Rattle.text.specs.Names.{name_of, name_read, text_of}
 use Rattle.text.specs.Words.{same, text}
 use Rattle.text.specs.declared.names.Name.{Name}
 use Rattle.amf0.specs.Bodies.{place_of}
-use Rattle.amf0.specs.Grammar.{Value, boolean, depth, depth_in, depth_of, number, string}
+use Rattle.amf0.specs.Grammar.{Value, depth, depth_in, depth_of, string}
 use Rattle.amf0.specs.Plain.{plain_at, property_at}
 use Rattle.amf0.specs.Properties.{last_property}
 use Rattle.amf0.specs.Showing.{Finds, Standing, last_of, nth, plain_shown}
@@ -30,7 +30,6 @@ use Rattle.metadata.specs.Metadata.{Held, tidy}
 use Rattle.metadata.specs.Reading.{flag_in, metadata_at, named_as, rate_in, rest_at, whole_in, with_encoder}
 use Rattle.metadata.specs.Writing.{Listed, flag, listed, metadata_row, named, rate, set_ones, whole}
 use Rattle.metadata.specs.declared.metadata.StreamMetadata.{StreamMetadata}
-use Rattle.metadata.specs.declared.reading.LongEncoder.{LongEncoder}
 
 -- ---- a list of properties that can be written, and that nest no further
 abbrev Good : Option Value → Type 0

@@ -1,11 +1,14 @@
 -- The bytes of one property, and of several one after the other.
 use mathlib.Core.Path.{◌≡◌, refl, sym, ap, ◌∙◌, subst}
-use Prim.Native.Nat.{ℕ, zero, suc, ◌+◌, ◌≤◌, ◌<◌}
+use Prim.Native.Nat.{ℕ, ◌+◌, ◌≤◌, ◌<◌}
 use native.Mathlib.Omega.{arith}
 use mathlib.Core.Bool.{Bool}
 use mathlib.Core.List.{List, [], ◌∷◌, ◌++◌, map, append_assoc, append-nil}
 use lib.Ieee.{Float, binary64, to_bits}
-use lib.ListN.{length, take, get_or, get_or-map, length-append}
+use lib.ListN.{length, take, get_or, length-append}
+use Rattle.std.proofs.lemmas.Grind.{flat_map-append}
+use Rattle.std.proofs.lemmas.List.{map_more}
+use Rattle.std.proofs.lemmas.List.Folds.{flat_map-map, length-flat_map-take}
 use Rattle.std.specs.Prelude.{Option, Some, None, IfSome, option_map}
 use Rattle.numbers.specs.Fields.{Run, over}
 use Rattle.numbers.specs.Whole.{double_of}
@@ -40,51 +43,40 @@ module _ (w : List ℕ) (o : Option PropertyValue) where
   unfolding piece
   one_unset q = ap (λ (x : Option PropertyValue). piece (w, option_map value_of x)) q
 
-  pub one_set : (v : PropertyValue) (at : ℕ) (d e f : List ℕ) (p r k : ℕ) → o ≡ Some v → e ≡ over at (counted 2 w) d → f ≡ over p (encode (value_of v)) e → k ≡ room (value_of v) → p ≡ at + 2 + length w → r ≡ p + k → at + length one ≤ length d → Run d at one r f
+  pub set_written : (v : PropertyValue) (at : ℕ) (d e f : List ℕ) (p r k : ℕ) → o ≡ Some v → e ≡ over at (counted 2 w) d → f ≡ over p (encode (value_of v)) e → k ≡ room (value_of v) → p ≡ at + 2 + length w → r ≡ p + k → at + length one ≤ length d → Run d at one r f
   unfolding piece
-  one_set v at d e f p r k q h g l i j n =
+  set_written v at d e f p r k q h g l i j n =
       let l1 = one_room v q in
       record {
         count = omega arith;
         whole = over_then at p (counted 2 w) (encode (value_of v)) d e f h g (omega (arith, text_room 2 w)) (omega arith) ∙ ap (λ (x : Option PropertyValue). over at (piece (w, option_map value_of x)) d) (sym q);
       }
 
+  pub unset_written : (at : ℕ) (d : List ℕ) → o ≡ None → Run d at one at d
+  unset_written at d q = subst (λ (x : List ℕ). Run d at x at d) (sym (one_unset q)) (run_start d at)
+
 -- ---- the first i of them, one after the other
-pieces_suc : (xs : List Listed) (i : ℕ) → pieces (take (suc i) xs) ≡ pieces (take i xs) ++ piece (get_or xs i ([], None))
-unfolding piece
-pieces_suc [] zero = refl
-pieces_suc [] (suc i) = refl
-pieces_suc (x ∷ xs) zero = append-nil (piece x)
-pieces_suc (x ∷ xs) (suc i) = ap (λ (l : List ℕ). piece x ++ l) (pieces_suc xs i) ∙ sym (append_assoc (piece x) (pieces (take i xs)) (piece (get_or xs i ([], None))))
-
-taken_short : (xs : List Listed) (i : ℕ) → length (pieces (take i xs)) ≤ length (pieces xs)
-taken_short [] zero = omega arith
-taken_short [] (suc i) = omega arith
-taken_short (x ∷ xs) zero = omega arith
-taken_short (x ∷ xs) (suc i) = omega (arith, length-append (piece x) (pieces xs), length-append (piece x) (pieces (take i xs)), taken_short xs i)
-
-module _ (ps : List Property) (i : ℕ) where
+module _ (ps : List Property) (i : ℕ) (p : Property) (m : i < length ps) where
   abbrev before : List ℕ
-  before = pieces (take i (map listing ps))
+  before = pieces (map listing (take i ps))
 
-  -- what stands past the table's end takes nothing
   abbrev here : List ℕ
-  here = piece (listing (get_or ps i (record { 0 = record { ref_ptr = (0, 0); now = [] }; 1 = None })))
+  here = piece (listing (get_or ps i p))
 
-  pub pieces_on : pieces (take (i + 1) (map listing ps)) ≡ before ++ here
-  pieces_on =
-      let j : i + 1 ≡ suc i = omega arith in
-      ap (λ (k : ℕ). pieces (take k (map listing ps))) j ∙ pieces_suc (map listing ps) i ∙ ap (λ (x : Listed). before ++ piece x) (get_or-map listing ps i _)
+  pub pieces_on : pieces (map listing (take (i + 1) ps)) ≡ before ++ here
+  pieces_on = ap pieces (map_more listing ps i p m) ∙ flat_map-append piece (map listing (take i ps)) (listing (get_or ps i p) ∷ []) ∙ ap (λ (l : List ℕ). before ++ l) (append-nil here)
 
-  pub length_on : length (pieces (take (i + 1) (map listing ps))) ≡ length before + length here
+  pub length_on : length (pieces (map listing (take (i + 1) ps))) ≡ length before + length here
   length_on = ap length pieces_on ∙ length-append before here
 
   pub room_on : length before + length here ≤ length (pieces (map listing ps))
-  room_on = omega (arith, length_on, taken_short (map listing ps) (i + 1))
+  room_on =
+      let one = λ (x : Property). piece (listing x) in
+      omega (arith, ap length (flat_map-map piece listing (take i ps)), ap length (flat_map-map piece listing ps), length-flat_map-take one ps i p m)
 
-  pub run_on : (d : List ℕ) (at p : ℕ) (e : List ℕ) (r : ℕ) (f : List ℕ) → Run d at before p e → Run e p here r f → at + length (pieces (map listing ps)) ≤ length d → Run d at (pieces (take (i + 1) (map listing ps))) r f
-  run_on d at p e r f g h n =
-      let s = run_then d at before p e here f p (length here) g h.whole refl refl (omega (arith, g.count, room_on)) in
+  pub run_on : (d : List ℕ) (at q : ℕ) (e : List ℕ) (r : ℕ) (f : List ℕ) → Run d at before q e → Run e q here r f → at + length (pieces (map listing ps)) ≤ length d → Run d at (pieces (map listing (take (i + 1) ps))) r f
+  run_on d at q e r f g h n =
+      let s = run_then d at before q e here f q (length here) g h.whole refl refl (omega (arith, g.count, room_on)) in
       record {
         whole = s.whole ∙ ap (λ (l : List ℕ). over at l d) (sym pieces_on);
         count = omega (arith, h.count, s.count, length_on);

@@ -1,5 +1,5 @@
 -- Metadata: none of it, and what of it counts.
-use Rattle.std.specs.Prelude.{◌≤◌, ◌<◌, T, Option, Some, None, IfSome, length, option_map}
+use Rattle.std.specs.Prelude.{◌≤◌, ◌<◌, T, None, IfSome, length, option_map}
 use Rattle.std.specs.Float.{binary32}
 use Rattle.std.specs.Float.Ieee.{fits}
 use Rattle.text.specs.Names.{name_of, text_of}

@@ -55,6 +55,7 @@ fn named<'a>(encoder: &'a Option<Name>) -> Option<PropertyValue<'a>>
 }
 
 // The eleven, in the order in which they are written.
+#[tactic(auto, using(crate::proofs::WritingLaws::eleven_short))]
 fn properties<'a>(m: &'a StreamMetadata) -> [Property<'a>; 11]
     ensures listed { map listing result ≡ listed m.now }
     ensures short { length (pieces (listed m.now)) < 4096 }
@@ -87,6 +88,7 @@ impl PropertyValue<'_> {
         }
     }
 
+    #[tactic(auto, unfolding(amf0::specs::Writing::room))]
     fn write_at(&self, out: &mut [u8], at: usize)
         requires { (room (value_of self.now) < 4096) × (at + room (value_of self.now) ≤ length out.old) }
         ensures { out.new ≡ over at (encode (value_of self.now)) out.old }
@@ -101,6 +103,7 @@ impl PropertyValue<'_> {
 
 impl Property<'_> {
     // Nothing where its field isn't set.
+    #[tactic(auto, using(crate::proofs::WritingLaws::one_room, crate::proofs::WritingLaws::one_unset))]
     fn room(&self) -> usize
         requires { length (piece (listing self.now)) < 4096 }
         ensures { result ≡ length (piece (listing self.now)) }
@@ -113,6 +116,7 @@ impl Property<'_> {
     }
 
     // Hands back the place behind it.
+    #[tactic(auto, using(crate::proofs::WritingLaws::one_room))]
     fn write_at(&self, out: &mut [u8], at: usize) -> usize
         requires { (length (piece (listing self.now)) < 4096) × (at + length (piece (listing self.now)) ≤ length out.old) }
         ensures { Run out.old at (piece (listing self.now)) result out.new }
@@ -130,6 +134,7 @@ impl Property<'_> {
     }
 }
 
+#[tactic(auto, using(crate::proofs::WritingLaws::length_on, crate::proofs::WritingLaws::room_on))]
 fn room_of(properties: &[Property]) -> usize
     requires { length (pieces (map listing properties.now)) < 4096 }
     ensures { result ≡ length (pieces (map listing properties.now)) }
@@ -141,6 +146,7 @@ fn room_of(properties: &[Property]) -> usize
     room
 }
 
+#[tactic(auto, using(crate::proofs::WritingLaws::room_on))]
 fn write_properties(out: &mut [u8], at: usize, properties: &[Property]) -> usize
     requires { (length (pieces (map listing properties.now)) < 4096) × (at + length (pieces (map listing properties.now)) ≤ length out.old) }
     ensures { Run out.old at (pieces (map listing properties.now)) result out.new }

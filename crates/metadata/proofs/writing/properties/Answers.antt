@@ -1,7 +1,6 @@
 use mathlib.Core.List.{[], ◌∷◌}
 use Rattle.text.specs.Words.{text}
 use Rattle.metadata.specs.Writing.{listed}
-use Rattle.metadata.proofs.WritingLaws.{eleven_short}
 use Rattle.metadata.proofs.writing.properties.Goals as goal
 
 pub returns-clause-listed : goal.returns-clause-listed
@@ -19,6 +18,3 @@ returns-clause-listed c = λ i.
     ∷ (text "stereo", c.flag.ensures i)
     ∷ (text "encoder", c.named.ensures.value i)
     ∷ []
-
-pub returns-clause-short : goal.returns-clause-short
-returns-clause-short c = eleven_short _ c.named.ensures.short

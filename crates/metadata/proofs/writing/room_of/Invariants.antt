@@ -4,4 +4,4 @@ use Rattle.metadata.proofs.writing.room_of.Given as goal
 
 -- of those before this one
 abbrev pub invariant-loop-property : goal.invariant-loop-property
-invariant-loop-property l = l.room ≡ length (pieces (take l.property-index (map listing l.properties)))
+invariant-loop-property l = l.room ≡ length (pieces (map listing (take l.property-index l.properties)))
