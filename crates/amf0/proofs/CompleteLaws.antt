@@ -8,7 +8,7 @@ use lib.ListN.{length, take, drop, length-append}
 use lib.Seq.{take-append_seam}
 use lib.Dec.{eqb, lit≤}
 use lib.Ieee.{binary64, of_bits}
-use Rattle.std.specs.Prelude.{Option, Some, Result, Ok}
+use Rattle.std.specs.Prelude.{Some, Result, Ok}
 use Rattle.numbers.specs.Fields.{bytes_of, field_at}
 use Rattle.numbers.proofs.FieldsLaws.{length_bytes_of}
 use Rattle.numbers.proofs.PlaceLaws.{byte_in, byte_is, byte_next, field_is, length_at, rest_at}

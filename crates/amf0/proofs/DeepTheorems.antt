@@ -11,7 +11,7 @@ use Rattle.numbers.specs.Fields.{bytes_of, field_at}
 use Rattle.numbers.proofs.PatternLaws.{le_or_lt}
 use Rattle.numbers.proofs.PlaceLaws.{byte_in, byte_next, field_is, rest_at}
 use Rattle.amf0.specs.Bodies.{checked, row, verdict}
-use Rattle.amf0.specs.Grammar.{Properties, Row, Spells, SpellsProperties, SpellsRow, Value, array, boolean, count, counted, date, depth, depth_in, depth_of, done, long, none, null, number, object, property, strict, string, undefined, value}
+use Rattle.amf0.specs.Grammar.{Properties, Row, Spells, SpellsProperties, SpellsRow, Value, array, count, counted, depth, depth_in, depth_of, done, none, object, property, strict, value}
 use Rattle.amf0.specs.Reading.{by_marker, extent, held}
 use Rattle.amf0.specs.Skipping.{Skip, after_value, pairs, shut, skip_v, values_f}
 use Rattle.amf0.specs.declared.error.BodyError.TheVariants.{NotAmf0, TooDeep}
@@ -32,15 +32,10 @@ mutual
   unfolding Spells depth by_marker values_f count
 
   pub deep : (x : Value) (s r b : List ℕ) (left at : ℕ) → Spells x b → left < depth x → drop at s ≡ b ++ r → skip_v s left at ≡ Err TooDeep
-  deep (number n) s r b left at p d e = absurd (omega arith)
-  deep (boolean t) s r b left at p d e = absurd (omega arith)
-  deep (string t) s r b left at p d e = absurd (omega arith)
   deep (object ps) s r b zero at (c, (p, q)) d e = at_marker s (c ++ r) at 0x03 (Object (at + 1)) refl refl (e ∙ ap (λ (y : List ℕ). y ++ r) q)
   deep (object ps) s r b (suc left) at (c, (p, q)) d e =
       let h : drop at s ≡ 0x03 ∷ (c ++ r) = e ∙ ap (λ (y : List ℕ). y ++ r) q in
       holds s r left at 0x03 (Object (at + 1)) (c ++ r) refl h ∙ deep_in ps s r c left (at + 1) p (omega arith) (byte_next s (c ++ r) at 0x03 h)
-  deep null s r b left at p d e = absurd (omega arith)
-  deep undefined s r b left at p d e = absurd (omega arith)
   deep (array ps) s r b zero at (n, (h, (c, (p, q)))) d e = at_marker s ((bytes_of 4 n ++ c) ++ r) at 0x08 (EcmaArray (at + 1)) refl refl (e ∙ ap (λ (y : List ℕ). y ++ r) q)
   deep (array ps) s r b (suc left) at (n, (h, (c, (p, q)))) d e =
       let g : drop at s ≡ (0x08 ∷ (bytes_of 4 n ++ c)) ++ r = e ∙ ap (λ (y : List ℕ). y ++ r) q in
@@ -56,8 +51,7 @@ mutual
       ∙ within_in s (at + 1) 4 (values_f (skip_v s left) (field_at 4 s (at + 1))) (count_room s r left at 0x0A n c g)
       ∙ ap (λ (j : ℕ). values_f (skip_v s left) j (at + 1 + 4)) k
       ∙ deep_of vs s r c left (at + 1 + 4) p (omega arith) (after_count s r left at 0x0A n c g)
-  deep (date n z) s r b left at p d e = absurd (omega arith)
-  deep (long t) s r b left at p d e = absurd (omega arith)
+  deep x s r b left at p d e = absurd (omega arith)
 
   pub deep_in : (ps : Properties) (s r b : List ℕ) (left at : ℕ) → SpellsProperties ps b → left < depth_in ps → drop at s ≡ b ++ r → pairs (skip_v s left) s at ≡ Err TooDeep
   deep_in none s r b left at p d e = absurd (omega arith)

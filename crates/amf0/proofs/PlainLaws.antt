@@ -1,13 +1,11 @@
 -- Values as the steps use them: what is read where a value of the grammar stands.
-use mathlib.Core.Path.{◌≡◌, refl, sym, ap, ◌∙◌}
-use Prim.Native.Nat.{ℕ, ◌+◌, ◌<◌}
+use mathlib.Core.Path.{◌≡◌, refl, ap, ◌∙◌}
+use Prim.Native.Nat.{ℕ, ◌+◌}
 use mathlib.Core.List.{List}
-use lib.ListN.{length}
-use Rattle.std.specs.Prelude.{Option, Some, None, option_map}
+use Rattle.std.specs.Prelude.{Some, option_map}
 use Rattle.numbers.specs.Fields.{field_at}
-use Rattle.amf0.specs.Grammar.{Value, array, boolean, date, long, null, number, object, strict, string, undefined}
+use Rattle.amf0.specs.Grammar.{Value, number}
 use Rattle.amf0.specs.Plain.{plain, plain_at}
-use Rattle.amf0.specs.Reading.{read_at}
 use Rattle.amf0.specs.Showing.{Content, Standing, plain_shown, shown}
 use Rattle.amf0.specs.declared.plain.Plain.TheVariants.{Bits}
 use Rattle.amf0.specs.declared.value.Read.{Read}
@@ -22,12 +20,4 @@ plain_stands v s p i =
   where
     same : (x : Value) → Content s p x → plain (shown x p) (field_at 8 s (p + 1)) ≡ plain_shown x p
     same (number n) e = ap Bits e
-    same (boolean t) e = refl
-    same (string t) e = refl
-    same (object ps) e = refl
-    same null e = refl
-    same undefined e = refl
-    same (array ps) e = refl
-    same (strict vs) e = refl
-    same (date n z) e = refl
-    same (long t) e = refl
+    same x e = refl

@@ -9,11 +9,9 @@ use Rattle.std.specs.Prelude.{Option, Some, None, option_map, Result, Ok, Err}
 use Rattle.std.specs.Result.{result_ok}
 use Rattle.text.specs.Words.{same}
 use Rattle.amf0.specs.Properties.{better, last, last_f, on_pair, pair_at, pair_of}
-use Rattle.amf0.specs.Reading.{name_at}
 use Rattle.amf0.specs.Skipping.{Skip, skip_v}
 use Rattle.amf0.specs.declared.error.BodyError.{BodyError}
 use Rattle.amf0.specs.declared.value.NameAt.{NameAt}
-use Rattle.amf0.specs.declared.value.NameAt.TheVariants.{End, Value}
 use Rattle.amf0.proofs.ReadingLaws.{name_cut}
 use Rattle.amf0.proofs.SkippingLaws.{Lands, Moves, Past, moves, name_cases}
 

@@ -18,17 +18,14 @@ use Rattle.text.specs.Words.{same}
 use Rattle.amf0.specs.Bodies.{place_of}
 use Rattle.amf0.specs.Grammar.{Properties, Row, Spells, SpellsProperties, SpellsRow, Value, array, boolean, count, counted, date, depth, depth_in, depth_of, done, long, none, null, number, object, property, strict, string, undefined, value}
 use Rattle.amf0.specs.Properties.{better, inside, last, last_property, pair_at, pair_of}
-use Rattle.amf0.specs.Reading.{by_marker, extent_at, held, name_at, read_at, text_at}
+use Rattle.amf0.specs.Reading.{by_marker, extent_at, held, read_at, text_at}
 use Rattle.amf0.specs.Showing.{Content, Finds, Standing, last_of, nth, shown}
 use Rattle.amf0.specs.Skipping.{Skip, after_value, skip_v, values_f}
 use Rattle.amf0.specs.declared.error.BodyError.{BodyError}
 use Rattle.amf0.specs.declared.value.Amf0Value.{Amf0Value}
 use Rattle.amf0.specs.declared.value.Amf0Value.TheVariants.{Number, Boolean, Text, Object, Null, Undefined, EcmaArray, StrictArray, Date, LongText}
-use Rattle.amf0.specs.declared.value.Read.{Read}
 use Rattle.amf0.specs.declared.value.Extent.{Extent}
 use Rattle.amf0.specs.declared.value.Extent.TheVariants.{Pairs}
-use Rattle.amf0.specs.declared.value.NameAt.{NameAt}
-use Rattle.amf0.specs.declared.value.NameAt.TheVariants.{Value as ValueAt}
 use Rattle.amf0.proofs.CompleteLaws.{complete, extent_is, name_is, name_text, none_is, pairs_at, read_is, text_is, value_at}
 use Rattle.amf0.proofs.PropertyLaws.{last_end, last_pair}
 use Rattle.amf0.proofs.SkippingLaws.{next_value, skip_past}

@@ -1,24 +1,23 @@
 -- The cases of what stands at a place, each from the tests that lead to it; and what can stand there at all.
-use mathlib.Core.Path.{◌≡◌, sym, ap, ◌∙◌, subst}
+use mathlib.Core.Path.{◌≡◌, sym, ap, subst}
 use Prim.Native.Nat.{ℕ, ◌+◌, ◌≤◌, ◌<◌}
 use native.Mathlib.Omega.{arith}
 use mathlib.Core.Bool.{not}
 use mathlib.Core.List.{List}
 use lib.ListN.{length, get_or}
 use lib.Dec.{eqb}
-use lib.Ieee.{Float, binary64, of_bits}
-use borrow.Author.Tests.{le-leb, lt-leb, eq-eqb, ne_eqb}
+use lib.Ieee.{binary64, of_bits}
+use borrow.Author.Tests.{le-leb, lt-leb, ne_eqb}
 use Rattle.std.specs.Prelude.{Option, Some, None, option_map, option_and_then, Result, Ok, Err}
 use Rattle.numbers.specs.Choose.{pick}
 use Rattle.numbers.specs.Fields.{field_at}
 use Rattle.numbers.proofs.ChooseLaws.{pick_eq, pick_le}
-use Rattle.amf0.specs.Reading.{by_marker, extent, extent_at, held, name_at, past, reach, read_at, text_at, within}
+use Rattle.amf0.specs.Reading.{by_marker, extent_at, held, name_at, past, reach, read_at, text_at, within}
 use Rattle.amf0.specs.declared.error.BodyError.{BodyError}
 use Rattle.amf0.specs.declared.error.BodyError.TheVariants.{NotAmf0}
 use Rattle.amf0.specs.declared.value.Amf0Value.{Amf0Value}
 use Rattle.amf0.specs.declared.value.Amf0Value.TheVariants.{Number, Boolean, Text, Object, Null, Undefined, EcmaArray, StrictArray, Date, LongText}
 use Rattle.amf0.specs.declared.value.Read.{Read}
-use Rattle.amf0.specs.declared.value.Extent.{Extent}
 use Rattle.amf0.specs.declared.value.NameAt.{NameAt}
 use Rattle.amf0.specs.declared.value.NameAt.TheVariants.{End, Value}
 

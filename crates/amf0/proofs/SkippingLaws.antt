@@ -12,7 +12,7 @@ use Rattle.amf0.specs.Skipping.{Skip, after_name, after_value, opened, pairs, pa
 use Rattle.amf0.specs.declared.error.BodyError.{BodyError}
 use Rattle.amf0.specs.declared.error.BodyError.TheVariants.{NotAmf0, TooDeep}
 use Rattle.amf0.specs.declared.value.Amf0Value.{Amf0Value}
-use Rattle.amf0.specs.declared.value.Amf0Value.TheVariants.{Number, Boolean, Text, Object, Null, Undefined, EcmaArray, StrictArray, Date, LongText}
+use Rattle.amf0.specs.declared.value.Amf0Value.TheVariants.{Text, Object, EcmaArray, StrictArray, LongText}
 use Rattle.amf0.specs.declared.value.Read.{Read}
 use Rattle.amf0.specs.declared.value.Extent.{Extent}
 use Rattle.amf0.specs.declared.value.Extent.TheVariants.{Ends, Pairs, CountedPairs, Values}

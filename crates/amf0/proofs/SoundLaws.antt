@@ -11,7 +11,7 @@ use Rattle.numbers.specs.Fields.{bytes_of, field_at}
 use Rattle.numbers.proofs.FieldsLaws.{length_bytes_of}
 use Rattle.numbers.proofs.PlaceLaws.{Bytes, cut_byte, cut_field, cut_text, field_lt, rest_at}
 use Rattle.amf0.specs.Grammar.{Properties, Row, Spells, SpellsProperties, SpellsRow, Value, array, boolean, count, counted, date, depth, depth_in, depth_of, done, long, none, null, number, object, property, strict, string, undefined, value}
-use Rattle.amf0.specs.Reading.{extent, extent_at, reach}
+use Rattle.amf0.specs.Reading.{extent_at, reach}
 use Rattle.amf0.specs.Skipping.{Skip, after_name, opened, pairs, pairs_f, shut, skip_v, values_f}
 use Rattle.amf0.specs.declared.error.BodyError.{BodyError}
 use Rattle.amf0.specs.declared.error.BodyError.TheVariants.{NotAmf0}

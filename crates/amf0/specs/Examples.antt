@@ -5,7 +5,7 @@ use Rattle.text.specs.Words.{same, text}
 use Rattle.amf0.specs.Bodies.{checked, place_of, row_f}
 use Rattle.amf0.specs.Grammar.{Value, array, boolean, count, date, done, long, none, null, number, object, property, strict, string, undefined, value}
 use Rattle.amf0.specs.Properties.{better, last, last_f, last_property, pair_at}
-use Rattle.amf0.specs.Reading.{by_marker, extent_at, held, name_at, past, read_at, text_at}
+use Rattle.amf0.specs.Reading.{by_marker, extent_at, name_at, past, read_at}
 use Rattle.amf0.specs.Skipping.{pairs_f, skip_v, values_f}
 use Rattle.amf0.specs.Writing.{encode, encode_of, size}
 use Rattle.amf0.specs.declared.error.BodyError.{BodyError}

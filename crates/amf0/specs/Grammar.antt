@@ -60,16 +60,10 @@ unfoldable mutual
 -- How deep containers (03, 08, 0A) nest in a value, itself counted.
 unfoldable mutual
   pub depth : Value → ℕ
-  depth (number n) = 0
-  depth (boolean t) = 0
-  depth (string t) = 0
   depth (object ps) = suc (depth_in ps)
-  depth null = 0
-  depth undefined = 0
   depth (array ps) = suc (depth_in ps)
   depth (strict vs) = suc (depth_of vs)
-  depth (date n z) = 0
-  depth (long t) = 0
+  depth v = 0
 
   pub depth_in : Properties → ℕ
   depth_in none = 0

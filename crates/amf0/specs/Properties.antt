@@ -1,5 +1,5 @@
 -- "If a name occurs twice, the last one alone counts, whatever its type."
-use Rattle.std.specs.Prelude.{ℕ, zero, suc, ◌+◌, ◌-◌, List, length, take, drop, Option, Some, None, option_map, Result, Ok, Err}
+use Rattle.std.specs.Prelude.{ℕ, zero, suc, ◌+◌, ◌-◌, List, length, take, drop, Option, Some, None, option_map, Result, Ok}
 use Rattle.std.specs.Result.{result_ok}
 use Rattle.numbers.specs.Choose.{pick}
 use Rattle.text.specs.Words.{same}
@@ -9,7 +9,7 @@ use Rattle.amf0.specs.declared.error.BodyError.{BodyError}
 use Rattle.amf0.specs.declared.value.Extent.{Extent}
 use Rattle.amf0.specs.declared.value.Extent.TheVariants.{Pairs}
 use Rattle.amf0.specs.declared.value.NameAt.{NameAt}
-use Rattle.amf0.specs.declared.value.NameAt.TheVariants.{End, Value}
+use Rattle.amf0.specs.declared.value.NameAt.TheVariants.{Value}
 
 -- the name between i and its value at v is w: v, else what was found before
 unfoldable pub better : List ℕ → List ℕ → ℕ → ℕ → Option ℕ → Option ℕ

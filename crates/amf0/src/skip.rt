@@ -1,5 +1,6 @@
 // Where a value ends: containers are gone through, at most `left` deep.
 #![tactic(auto, using(crate::proofs::SkippingLaws::skips), unfolding(crate::specs::Skipping::values_f))]
+
 ghost use Rattle.std.specs.Prelude.{◌≡◌};
 ghost use Rattle.amf0.specs.Skipping.{pairs, skip_v, values_f};
 

@@ -59,8 +59,10 @@ pub fn past(body: &[u8], p: usize, n: usize) -> Option<usize>
 fn hold(body: &[u8], p: usize, n: usize, value: Amf0Value) -> Option<Read>
     ensures { result ≡ held body.now p n value }
 {
-    let next = past(body, p, n)?;
-    Some(Read { value, next })
+    Some(Read {
+        value,
+        next: past(body, p, n)?,
+    })
 }
 
 // A text after its length of two bytes. Every string is read here.

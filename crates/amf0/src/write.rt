@@ -1,6 +1,7 @@
 // Values written into a lent buffer from `at` on. Bytes past what is written stay. A string's length is two bytes, so
 // every writer of one asks for less than 65,536 bytes; names are at most 128 and texts at most 256 and a name.
 #![tactic(auto, unfolding(crate::specs::Writing::encode, numbers::specs::Fields::bytes_of))]
+
 ghost use Rattle.std.specs.Prelude.{◌≡◌, [], ◌∷◌, ◌+◌, ◌≤◌, ◌<◌, length};
 ghost use Rattle.numbers.specs.Fields.{over};
 ghost use Rattle.amf0.specs.Grammar.{boolean, counted, none, null, number, string};
