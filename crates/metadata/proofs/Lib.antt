@@ -1,4 +1,3 @@
-pub mod ReadingLaws
 pub mod WritingLaws
 pub mod BackTheorems
 pub mod EmptyTheorems

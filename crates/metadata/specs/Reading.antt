@@ -1,117 +1,61 @@
 -- The metadata of an object: "width, height, videocodecid, videodatarate, framerate, audiocodecid, audiodatarate, audiosamplerate, audiochannels (numbers), stereo (boolean), encoder (string). A wrong type leaves that field unset"
-use Rattle.std.specs.Prelude.{ℕ, true, false, List, take, drop}
+use Rattle.std.specs.Prelude.{ℕ, Bool, Float, List, take, drop, Option, Some, None, Result, Ok, Err}
 use Rattle.std.specs.Float.{binary32, binary64}
 use Rattle.std.specs.Float.Ieee.{of_bits}
 use Rattle.numbers.specs.Single.{convert}
 use Rattle.numbers.specs.Whole.{u32_of}
-use Rattle.text.specs.Names.{empty_name, name_read}
+use Rattle.text.specs.Names.{name_read}
 use Rattle.text.specs.Words.{text}
-use Rattle.text.specs.declared.names.NameRead.{NameRead}
+use Rattle.text.specs.declared.names.Name.{Name}
 use Rattle.amf0.specs.Plain.{property_at}
 use Rattle.amf0.specs.declared.plain.Plain.{Plain}
-use Rattle.amf0.specs.declared.plain.Plain.TheVariants.{Bits, Boolean, Text, Object, Other, NoValue}
-use Rattle.metadata.specs.Metadata.{zero_rate}
-use Rattle.metadata.specs.declared.reading.Encoder.{Encoder}
-use Rattle.metadata.specs.declared.reading.Flag.{Flag}
-use Rattle.metadata.specs.declared.reading.MetadataRead.{MetadataRead}
-use Rattle.metadata.specs.declared.reading.Rate.{Rate}
-use Rattle.metadata.specs.declared.reading.Whole.{Whole}
+use Rattle.amf0.specs.declared.plain.Plain.TheVariants.{Bits, Boolean, Text}
+use Rattle.metadata.specs.declared.metadata.StreamMetadata.{StreamMetadata}
+use Rattle.metadata.specs.declared.reading.LongEncoder.{LongEncoder}
 
--- ---- what a value says as a field of each type
+-- ---- what a property says as a field of each type
 
 -- "the other numbers as u32"
-abbrev pub no_whole : Whole
-no_whole = record { set = false; value = 0 }
-
-abbrev pub whole_in : Plain → Whole
-whole_in (Bits b) = record { set = true; value = u32_of b }
-whole_in (Boolean t) = no_whole
-whole_in (Text start len) = no_whole
-whole_in Object = no_whole
-whole_in Other = no_whole
-whole_in NoValue = no_whole
+abbrev pub whole_in : Option Plain → Option ℕ
+whole_in (Some (Bits b)) = Some (u32_of b)
+whole_in p = None
 
 -- "`framerate` is held as a single"
-abbrev pub no_rate : Rate
-no_rate = record { set = false; value = zero_rate }
+abbrev pub rate_in : Option Plain → Option Float
+rate_in (Some (Bits b)) = Some (convert binary32 (of_bits binary64 b))
+rate_in p = None
 
-abbrev pub rate_in : Plain → Rate
-rate_in (Bits b) = record { set = true; value = convert binary32 (of_bits binary64 b) }
-rate_in (Boolean t) = no_rate
-rate_in (Text start len) = no_rate
-rate_in Object = no_rate
-rate_in Other = no_rate
-rate_in NoValue = no_rate
-
-abbrev pub no_flag : Flag
-no_flag = record { set = false; value = false }
-
-abbrev pub flag_in : Plain → Flag
-flag_in (Bits b) = no_flag
-flag_in (Boolean t) = record { set = true; value = t }
-flag_in (Text start len) = no_flag
-flag_in Object = no_flag
-flag_in Other = no_flag
-flag_in NoValue = no_flag
+abbrev pub flag_in : Option Plain → Option Bool
+flag_in (Some (Boolean t)) = Some t
+flag_in p = None
 
 -- an encoder over 128 bytes is none, and told apart
-abbrev pub encoder_of : NameRead → Encoder
-encoder_of r = record { set = r.fits; fits = r.fits; value = r.name }
+abbrev pub named_as : Option Name → StreamMetadata → Result StreamMetadata LongEncoder
+named_as (Some e) m = Ok (record m { encoder = Some e })
+named_as None m = Err (record { rest = m })
 
-abbrev pub no_encoder : Encoder
-no_encoder = record { set = false; fits = true; value = empty_name }
+abbrev pub with_encoder : List ℕ → Option Plain → StreamMetadata → Result StreamMetadata LongEncoder
+with_encoder s (Some (Text start len)) m = named_as (name_read (take len (drop start s))) m
+with_encoder s p m = Ok m
 
-abbrev pub encoder_in : List ℕ → Plain → Encoder
-encoder_in s (Bits b) = no_encoder
-encoder_in s (Boolean t) = no_encoder
-encoder_in s (Text start len) = encoder_of (name_read (take len (drop start s)))
-encoder_in s Object = no_encoder
-encoder_in s Other = no_encoder
-encoder_in s NoValue = no_encoder
+-- ---- the eleven. "If a name occurs twice, the last one alone counts, whatever its type": as `property_at` has it
 
--- ---- the eleven
-unfoldable pub fields_from : Whole → Whole → Whole → Whole → Rate → Whole → Whole → Whole → Whole → Flag → Encoder → MetadataRead
-fields_from width height videocodecid videodatarate framerate audiocodecid audiodatarate audiosamplerate audiochannels stereo encoder =
+-- all but the encoder
+unfoldable pub rest_at : List ℕ → ℕ → StreamMetadata
+rest_at s at =
     record {
-      encoder_fits = encoder.fits;
-      metadata = record {
-        has_video_width = width.set;
-        has_video_height = height.set;
-        has_video_codec_id = videocodecid.set;
-        has_video_bitrate_kbps = videodatarate.set;
-        has_video_frame_rate = framerate.set;
-        has_audio_codec_id = audiocodecid.set;
-        has_audio_bitrate_kbps = audiodatarate.set;
-        has_audio_sample_rate = audiosamplerate.set;
-        has_audio_channels = audiochannels.set;
-        has_audio_is_stereo = stereo.set;
-        has_encoder = encoder.set;
-        video_width = width.value;
-        video_height = height.value;
-        video_codec_id = videocodecid.value;
-        video_bitrate_kbps = videodatarate.value;
-        video_frame_rate = framerate.value;
-        audio_codec_id = audiocodecid.value;
-        audio_bitrate_kbps = audiodatarate.value;
-        audio_sample_rate = audiosamplerate.value;
-        audio_channels = audiochannels.value;
-        audio_is_stereo = stereo.value;
-        encoder = encoder.value;
-      };
+      video_width = whole_in (property_at s at (text "width"));
+      video_height = whole_in (property_at s at (text "height"));
+      video_codec_id = whole_in (property_at s at (text "videocodecid"));
+      video_bitrate_kbps = whole_in (property_at s at (text "videodatarate"));
+      video_frame_rate = rate_in (property_at s at (text "framerate"));
+      audio_codec_id = whole_in (property_at s at (text "audiocodecid"));
+      audio_bitrate_kbps = whole_in (property_at s at (text "audiodatarate"));
+      audio_sample_rate = whole_in (property_at s at (text "audiosamplerate"));
+      audio_channels = whole_in (property_at s at (text "audiochannels"));
+      audio_is_stereo = flag_in (property_at s at (text "stereo"));
+      encoder = None;
     }
 
--- "If a name occurs twice, the last one alone counts, whatever its type": as `property_at` has it
-unfoldable pub metadata_at : List ℕ → ℕ → MetadataRead
-metadata_at s at =
-    fields_from
-    (whole_in (property_at s at (text "width")))
-    (whole_in (property_at s at (text "height")))
-    (whole_in (property_at s at (text "videocodecid")))
-    (whole_in (property_at s at (text "videodatarate")))
-    (rate_in (property_at s at (text "framerate")))
-    (whole_in (property_at s at (text "audiocodecid")))
-    (whole_in (property_at s at (text "audiodatarate")))
-    (whole_in (property_at s at (text "audiosamplerate")))
-    (whole_in (property_at s at (text "audiochannels")))
-    (flag_in (property_at s at (text "stereo")))
-    (encoder_in s (property_at s at (text "encoder")))
+unfoldable pub metadata_at : List ℕ → ℕ → Result StreamMetadata LongEncoder
+metadata_at s at = with_encoder s (property_at s at (text "encoder")) (rest_at s at)

@@ -6,5 +6,5 @@ mod reading;
 mod writing;
 
 pub use metadata::{StreamMetadata, no_metadata};
-pub use reading::{MetadataRead, read_metadata};
+pub use reading::{LongEncoder, read_metadata};
 pub use writing::metadata_record;

@@ -1,13 +1,8 @@
-use mathlib.Core.Path.{◌≡◌}
-use Prim.Native.Nat.{◌-◌, ◌≤◌}
-use lib.ListN.{length, take}
+use Rattle.std.proofs.Common.{◌≡◌, length, map, take}
 use Rattle.numbers.specs.Fields.{Run}
-use Rattle.metadata.specs.Writing.{listed, pieces}
+use Rattle.metadata.specs.Writing.{listing, pieces}
 use Rattle.metadata.proofs.writing.write_properties.Given as goal
 
--- the first i of them stand from `at` on
-abbrev pub invariant-loop-i : goal.invariant-loop-i
-invariant-loop-i l = (l.i ≤ 11) × ((length l.out ≡ length l.initial.out) × Run l.initial.out l.at (pieces (take l.i (listed l.m))) l.p l.out)
-
-abbrev pub decreases-loop-i : goal.decreases-loop-i
-decreases-loop-i l = 11 - l.i
+-- those before this one stand from `at` on
+abbrev pub invariant-loop-property : goal.invariant-loop-property
+invariant-loop-property l = (length l.out ≡ length l.initial.out) × Run l.initial.out l.at (pieces (map listing (take l.property-index l.properties))) l.p l.out
