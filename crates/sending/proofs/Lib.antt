@@ -1,2 +1,1 @@
-pub mod SendsLaws
 pub mod RefusalTheorems

@@ -2,11 +2,9 @@
 // is: the door, and then the one record.
 #![tactic(auto)]
 
-mod answer;
 mod sends;
 
-pub use answer::{PingAnswer, SendAnswer};
 pub use sends::{
-    send_audio_data, send_metadata, send_ping_request, send_video_data, write_media,
+    PingSent, send_audio_data, send_metadata, send_ping_request, send_video_data, write_media,
     write_metadata, write_ping,
 };
