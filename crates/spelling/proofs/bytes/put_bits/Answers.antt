@@ -1,6 +1,7 @@
-use lib.Dec.{lit≤}
-use Rattle.spelling.proofs.TextLaws.{bits_are}
+use mathlib.Core.Path.{ap, ◌∙◌}
+use Rattle.spelling.proofs.TextLaws.{put_as, eight_bytes}
+use Rattle.spelling.specs.Text.{hex_of}
 use Rattle.spelling.proofs.bytes.put_bits.Goals as goal
 
 pub returns : goal.returns
-returns c = bits_are 8 _ _ _ _ _ c.put_hex.ensures c.write_field.ensures (lit≤ tt)
+returns c = put_as _ _ _ _ c.put_hex.ensures (ap hex_of (c.to_be_bytes.ensures ∙ eight_bytes _))
