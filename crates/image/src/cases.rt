@@ -1,7 +1,7 @@
 // The cases of a session's enums by number. Functions, since the enums and the numbers are both of other crates: no impl of
 // `From` may stand here.
 ghost use Rattle.std.specs.Prelude.{◌≡◌};
-ghost use Rattle.image.specs.Cases.{flag_number, kind_number, kind_of, mode_number, mode_of, session_state, state_number, state_of};
+ghost use Rattle.image.specs.Cases.{flag_number, kind_of, mode_number, mode_of, session_state, state_of};
 
 use session::SessionState;
 use tables::{RequestKind, StreamState};
@@ -17,12 +17,6 @@ pub fn state_of(n: u64) -> StreamState
         2 => StreamState::Playing,
         _ => StreamState::Completed,
     }
-}
-
-pub fn state_number(state: StreamState) -> u64
-    ensures { result ≡ state_number state }
-{
-    state as u64
 }
 
 #[tactic(auto, unfolding(crate::specs::Cases::mode_of))]
@@ -51,12 +45,6 @@ pub fn kind_of(n: u64) -> RequestKind
         1 => RequestKind::Publish,
         _ => RequestKind::Play,
     }
-}
-
-pub fn kind_number(kind: RequestKind) -> u64
-    ensures { result ≡ kind_number kind }
-{
-    kind as u64
 }
 
 #[tactic(auto, unfolding(crate::specs::Cases::session_state))]

@@ -1,12 +1,12 @@
 // Refusal 15 of the arrays, before a session is made of them.
-ghost use Rattle.std.specs.Prelude.{◌≡◌, ℕ, Bool, length, take};
+ghost use Rattle.std.specs.Prelude.{◌≡◌, length, take};
 ghost use Rattle.std.specs.List.{list_all};
-ghost use Rattle.text.specs.declared.names.Name.{Name};
 ghost use Rattle.tables.specs.Tables.{rises_from};
-ghost use Rattle.image.specs.Image.{facts_readable, readable_at, request_readable, sound_at, stream_readable};
-ghost use Rattle.image.specs.Quick.{quick_at, request_weight, row_number, stream_weight};
+ghost use Rattle.image.specs.Image.{facts_readable, readable_at, sound_at};
+ghost use Rattle.image.specs.Quick.{quick_at};
 
 use crate::reading::read_sound;
+use crate::rows::Row;
 use crate::shape::types_say;
 
 #[tactic(auto, unfolding(crate::specs::Image::facts_readable))]
@@ -14,76 +14,6 @@ fn facts_readable(facts: &[u64; 10]) -> bool
     ensures { result ≡ facts_readable facts.now }
 {
     facts[2] < 2 && facts[3] < 2 && facts[6] < 4294967296 && facts[7] < 4294967296
-}
-
-// A row of either table.
-trait Row: Copy {
-    ghost readable: { Self → Bool };
-
-    ghost number: { Self → ℕ };
-
-    ghost weight: { Self → Name };
-
-    // Whether each number names a case or fits its 32 bits.
-    fn readable(self) -> bool
-        ensures { result ≡ readable self };
-
-    fn number(self) -> u64
-        ensures { result ≡ number self };
-
-    // The length of the name, or one that is too long where the row is not readable.
-    fn weight(self) -> u64
-        ensures { result ≡ (weight self).len };
-}
-
-impl Row for [u64; 4] {
-    ghost readable = { stream_readable };
-
-    ghost number = { row_number };
-
-    ghost weight = { stream_weight };
-
-    #[tactic(auto, unfolding(crate::specs::Image::stream_readable))]
-    fn readable(self) -> bool {
-        self[0] < 4294967296 && self[1] < 4 && self[2] < 3
-    }
-
-    fn number(self) -> u64 {
-        self[0]
-    }
-
-    fn weight(self) -> u64 {
-        if self[1] < 4 && self[2] < 3 {
-            self[3]
-        } else {
-            129
-        }
-    }
-}
-
-impl Row for [u64; 6] {
-    ghost readable = { request_readable };
-
-    ghost number = { row_number };
-
-    ghost weight = { request_weight };
-
-    #[tactic(auto, unfolding(crate::specs::Image::request_readable))]
-    fn readable(self) -> bool {
-        self[0] < 4294967296 && self[1] < 3 && self[2] < 4294967296 && self[3] < 3
-    }
-
-    fn number(self) -> u64 {
-        self[0]
-    }
-
-    fn weight(self) -> u64 {
-        if self[1] < 3 && self[2] < 4294967296 && self[3] < 3 {
-            self[5]
-        } else {
-            129
-        }
-    }
 }
 
 fn readable<R: Row>(rows: &[R], count: u64) -> bool
