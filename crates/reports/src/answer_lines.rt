@@ -18,7 +18,7 @@ fn untouched(out: &[u8], n: usize) -> bool
 }
 
 // "out=HEX is what was written, .. and is left out where that is 0."
-#[tactic(auto, using(spelling::proofs::TextLaws::put_none), unfolding(crate::specs::AnswerLine::written_text))]
+#[tactic(auto, using(spelling::proofs::TextLaws::put_more, spelling::proofs::TextLaws::put_none), unfolding(crate::specs::AnswerLine::written_text))]
 fn put_written(line: &mut [u8], at: usize, count: usize, out: &[u8]) -> usize
     ensures { (result, line.new) ≡ put_all (written_text count out.now) (at, line.old) }
 {
@@ -30,7 +30,7 @@ fn put_written(line: &mut [u8], at: usize, count: usize, out: &[u8]) -> usize
 }
 
 // "`spilt` stands where a byte of the buffer past the written count is no longer A5"
-#[tactic(auto, using(spelling::proofs::TextLaws::put_none), unfolding(crate::specs::AnswerLine::spilt_text))]
+#[tactic(auto, using(spelling::proofs::TextLaws::put_more, spelling::proofs::TextLaws::put_none), unfolding(crate::specs::AnswerLine::spilt_text))]
 fn put_spilt(line: &mut [u8], at: usize, count: usize, out: &[u8]) -> usize
     ensures { (result, line.new) ≡ put_all (spilt_text count out.now) (at, line.old) }
 {
@@ -42,6 +42,7 @@ fn put_spilt(line: &mut [u8], at: usize, count: usize, out: &[u8]) -> usize
 }
 
 // What was written, whether more was touched, and the line's end.
+#[tactic(auto, using(spelling::proofs::TextLaws::put_more), unfolding(crate::specs::AnswerLine::end_text))]
 fn put_end(line: &mut [u8], at: usize, count: usize, out: &[u8]) -> usize
     ensures { (result, line.new) ≡ put_all (end_text count out.now) (at, line.old) }
 {
@@ -49,6 +50,7 @@ fn put_end(line: &mut [u8], at: usize, count: usize, out: &[u8]) -> usize
     put_spilt(line, to, count, out)
 }
 
+#[tactic(auto, using(spelling::proofs::TextLaws::put_more), unfolding(crate::specs::AnswerLine::head_text))]
 fn put_head(line: &mut [u8], name: &[u8], outcome: Outcome) -> usize
     ensures { (result, line.new) ≡ put_all (head_text name.now outcome) (0, line.old) }
 {
@@ -57,6 +59,7 @@ fn put_head(line: &mut [u8], name: &[u8], outcome: Outcome) -> usize
 }
 
 // A call that may raise an event; `len` is the length of a message's body.
+#[tactic(auto, using(spelling::proofs::TextLaws::put_more), unfolding(crate::specs::AnswerLine::answer_text))]
 pub fn put_answer(
     line: &mut [u8],
     name: &[u8],
@@ -76,6 +79,7 @@ pub fn put_answer(
     put_end(line, b, count, out)
 }
 
+#[tactic(auto, using(spelling::proofs::TextLaws::put_more), unfolding(crate::specs::AnswerLine::send_text))]
 pub fn put_sent(line: &mut [u8], name: &[u8], outcome: Outcome, count: usize, out: &[u8]) -> usize
     ensures { (result, line.new) ≡ put_all (send_text name.now outcome count out.now) (0, line.old) }
 {
@@ -84,7 +88,7 @@ pub fn put_sent(line: &mut [u8], name: &[u8], outcome: Outcome, count: usize, ou
 }
 
 // "ping=N is the number that a ping request hands back"
-#[tactic(auto, using(spelling::proofs::TextLaws::put_none), unfolding(crate::specs::AnswerLine::ping_text))]
+#[tactic(auto, using(spelling::proofs::TextLaws::put_more, spelling::proofs::TextLaws::put_none), unfolding(crate::specs::AnswerLine::ping_text))]
 fn put_number(line: &mut [u8], at: usize, outcome: Outcome, timestamp: u32) -> usize
     ensures { (result, line.new) ≡ put_all (ping_text outcome timestamp) (at, line.old) }
 {
@@ -95,6 +99,7 @@ fn put_number(line: &mut [u8], at: usize, outcome: Outcome, timestamp: u32) -> u
     }
 }
 
+#[tactic(auto, using(spelling::proofs::TextLaws::put_more), unfolding(crate::specs::AnswerLine::ping_line))]
 pub fn put_ping(
     line: &mut [u8],
     outcome: Outcome,

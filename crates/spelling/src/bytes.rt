@@ -16,6 +16,7 @@ pub fn put(out: &mut [u8], at: usize, x: u8) -> usize
     at
 }
 
+#[tactic(auto, unfolding(crate::specs::Text::put_all))]
 pub fn put_word(out: &mut [u8], at: usize, word: &[u8]) -> usize
     ensures { (result, out.new) ≡ put_all word.now (at, out.old) }
 {
@@ -35,6 +36,7 @@ fn glyph(d: u8) -> u8
 }
 
 // Two digits for each byte.
+#[tactic(auto, unfolding(crate::specs::Text::put_all, crate::specs::Text::hex_of))]
 pub fn put_hex(out: &mut [u8], at: usize, part: &[u8]) -> usize
     ensures { (result, out.new) ≡ put_all (hex_of part.now) (at, out.old) }
 {
@@ -47,12 +49,14 @@ pub fn put_hex(out: &mut [u8], at: usize, part: &[u8]) -> usize
 }
 
 // The n lowest bytes of x, the highest first.
+#[tactic(auto, using(crate::proofs::TextLaws::eight_bytes))]
 pub fn put_bits(out: &mut [u8], at: usize, x: u64) -> usize
     ensures { (result, out.new) ≡ put_all (hex_of (bytes_of 8 x)) (at, out.old) }
 {
     put_hex(out, at, &x.to_be_bytes())
 }
 
+#[tactic(auto, using(crate::proofs::TextLaws::four_bytes))]
 pub fn put_single(out: &mut [u8], at: usize, x: u32) -> usize
     ensures { (result, out.new) ≡ put_all (hex_of (bytes_of 4 x)) (at, out.old) }
 {
@@ -79,6 +83,7 @@ pub fn put_text(out: &mut [u8], at: usize, part: &[u8]) -> usize
 }
 
 // `name` stands in front, with its blank and its `=`.
+#[tactic(auto, using(crate::proofs::TextLaws::put_more), unfolding(crate::specs::Text::number_field))]
 pub fn put_field(out: &mut [u8], at: usize, name: &[u8], n: u64) -> usize
     ensures { (result, out.new) ≡ put_all (number_field name.now n) (at, out.old) }
 {
@@ -86,6 +91,7 @@ pub fn put_field(out: &mut [u8], at: usize, name: &[u8], n: u64) -> usize
     put_decimal(out, to, n)
 }
 
+#[tactic(auto, using(crate::proofs::TextLaws::put_more), unfolding(crate::specs::Text::name_field))]
 pub fn put_name(out: &mut [u8], at: usize, field: &[u8], name: Name) -> usize
     ensures { (result, out.new) ≡ put_all (name_field field.now name) (at, out.old) }
 {
