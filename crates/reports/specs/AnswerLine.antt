@@ -1,5 +1,5 @@
 -- "NAME CODE [ACTION STREAM] [EVENT FIELD=VALUE ..] [ping=N] [out=HEX] [spilt]"
-use Rattle.std.specs.Prelude.{ℕ, Bool, true, ◌&&◌, List, [], ◌∷◌, ◌++◌, eqb, drop, take}
+use Rattle.std.specs.Prelude.{ℕ, Bool, List, [], ◌++◌, eqb, drop, take}
 use Rattle.std.specs.List.{list_all}
 use Rattle.numbers.specs.Choose.{pick}
 use Rattle.text.specs.Words.{text}

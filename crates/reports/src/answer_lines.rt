@@ -18,7 +18,7 @@ fn untouched(out: &[u8], n: usize) -> bool
 }
 
 // "out=HEX is what was written, .. and is left out where that is 0."
-#[tactic(auto, using(spelling::proofs::TextLaws::put_more, spelling::proofs::TextLaws::put_none), unfolding(crate::specs::AnswerLine::written_text))]
+#[tactic(auto, using(spelling::proofs::TextLaws::put_none), unfolding(crate::specs::AnswerLine::written_text))]
 fn put_written(line: &mut [u8], at: usize, count: usize, out: &[u8]) -> usize
     ensures { (result, line.new) ≡ put_all (written_text count out.now) (at, line.old) }
 {
@@ -30,7 +30,7 @@ fn put_written(line: &mut [u8], at: usize, count: usize, out: &[u8]) -> usize
 }
 
 // "`spilt` stands where a byte of the buffer past the written count is no longer A5"
-#[tactic(auto, using(spelling::proofs::TextLaws::put_more, spelling::proofs::TextLaws::put_none), unfolding(crate::specs::AnswerLine::spilt_text))]
+#[tactic(auto, unfolding(crate::specs::AnswerLine::spilt_text))]
 fn put_spilt(line: &mut [u8], at: usize, count: usize, out: &[u8]) -> usize
     ensures { (result, line.new) ≡ put_all (spilt_text count out.now) (at, line.old) }
 {
@@ -88,7 +88,7 @@ pub fn put_sent(line: &mut [u8], name: &[u8], outcome: Outcome, count: usize, ou
 }
 
 // "ping=N is the number that a ping request hands back"
-#[tactic(auto, using(spelling::proofs::TextLaws::put_more, spelling::proofs::TextLaws::put_none), unfolding(crate::specs::AnswerLine::ping_text))]
+#[tactic(auto, using(spelling::proofs::TextLaws::put_none), unfolding(crate::specs::AnswerLine::ping_text))]
 fn put_number(line: &mut [u8], at: usize, outcome: Outcome, timestamp: u32) -> usize
     ensures { (result, line.new) ≡ put_all (ping_text outcome timestamp) (at, line.old) }
 {
