@@ -1,3 +1,2 @@
-pub mod AnswersLaws
 pub mod RefusalTheorems
 pub mod SoundTheorems
