@@ -1,13 +1,12 @@
 -- The application's decisions, by what the code found.
 use mathlib.Core.Path.{◌≡◌, sym, ap, ◌∙◌}
 use mathlib.Core.Bool.{Bool, true, false}
+use Rattle.std.specs.Prelude.{Option, Some, None}
 use Rattle.text.specs.Names.{empty_name}
 use Rattle.text.specs.declared.ids.StreamId.{StreamId}
 use Rattle.tables.specs.declared.requests.Request.{Request}
-use Rattle.tables.specs.declared.requests.RequestFound.{RequestFound}
 use Rattle.tables.specs.declared.requests.RequestKind.{RequestKind}
 use Rattle.tables.specs.declared.streams.Stream.{Stream}
-use Rattle.tables.specs.declared.streams.StreamFound.{StreamFound}
 use Rattle.tables.specs.declared.streams.StreamState.{StreamState}
 use Rattle.wishes.specs.declared.outcome.Action.{Action}
 use Rattle.wishes.specs.declared.outcome.Action.TheVariants.{Complete}
@@ -37,32 +36,33 @@ pub finished_told : (x y : StreamState) (id : StreamId) (e : Stream) (d : Decisi
 finished_told x y id e d k q = k ∙ ap (λ (z : StreamState). finished z id e) (sym q)
 
 -- ---- a request that waits, or not
-module _ (q : RequestFound) (d : Decision) where
-  pub accept_none : (found : Bool) → d ≡ refusing NoSuchRequest → q.found ≡ false → d ≡ accept_request q found
+module _ (q : Option Request) (d : Decision) where
+  pub accept_none : (found : Bool) → d ≡ refusing NoSuchRequest → q ≡ None → d ≡ accept_request q found
   unfolding accept_request on_waiting
-  accept_none found k h = k ∙ simp h
+  accept_none found k h = k ∙ ap (λ (o : Option Request). accept_request o found) (sym h)
 
-  pub accept_some : (found : Bool) → d ≡ granted q.request.kind q.request found → q.found ≡ true → d ≡ accept_request q found
+  pub accept_some : (r : Request) (found : Bool) → d ≡ granted r.kind r found → q ≡ Some r → d ≡ accept_request q found
   unfolding accept_request on_waiting
-  accept_some found k h = k ∙ simp h
+  accept_some r found k h = k ∙ ap (λ (o : Option Request). accept_request o found) (sym h)
 
-  pub reject_none : (short : Bool) → d ≡ refusing NoSuchRequest → q.found ≡ false → d ≡ reject_request q short
+  pub reject_none : (short : Bool) → d ≡ refusing NoSuchRequest → q ≡ None → d ≡ reject_request q short
   unfolding reject_request on_waiting
-  reject_none short k h = k ∙ simp h
+  reject_none short k h = k ∙ ap (λ (o : Option Request). reject_request o short) (sym h)
 
-  pub reject_long : (short : Bool) → d ≡ refusing TextTooLong → short ≡ false → q.found ≡ true → d ≡ reject_request q short
-  unfolding reject_request on_waiting
-  reject_long short k b h = k ∙ simp (h, b)
+  module _ (r : Request) (short : Bool) where
+    pub reject_long : d ≡ refusing TextTooLong → short ≡ false → q ≡ Some r → d ≡ reject_request q short
+    unfolding reject_request on_waiting
+    reject_long k b h = k ∙ simp b (ap (λ (o : Option Request). reject_request o false) (sym h))
 
-  pub reject_some : (short : Bool) → d ≡ replying (rejection q.request.kind q.request) empty_name (dropping q.request) → short ≡ true → q.found ≡ true → d ≡ reject_request q short
-  unfolding reject_request on_waiting
-  reject_some short k b h = k ∙ simp (h, b)
+    pub reject_some : d ≡ replying (rejection r.kind r) empty_name (dropping r) → short ≡ true → q ≡ Some r → d ≡ reject_request q short
+    unfolding reject_request on_waiting
+    reject_some k b h = k ∙ simp b (ap (λ (o : Option Request). reject_request o true) (sym h))
 
-module _ (e : StreamFound) (id : StreamId) (d : Decision) where
-  pub finish_none : d ≡ refusing (WrongStream Complete id) → e.found ≡ false → d ≡ finish_playing e id
+module _ (e : Option Stream) (id : StreamId) (d : Decision) where
+  pub finish_none : d ≡ refusing (WrongStream Complete id) → e ≡ None → d ≡ finish_playing e id
   unfolding finish_playing
-  finish_none k h = k ∙ simp h
+  finish_none k h = k ∙ ap (λ (o : Option Stream). finish_playing o id) (sym h)
 
-  pub finish_some : d ≡ finished e.stream.state id e.stream → e.found ≡ true → d ≡ finish_playing e id
+  pub finish_some : (x : Stream) → d ≡ finished x.state id x → e ≡ Some x → d ≡ finish_playing e id
   unfolding finish_playing
-  finish_some k h = k ∙ simp h
+  finish_some x k h = k ∙ ap (λ (o : Option Stream). finish_playing o id) (sym h)

@@ -1,13 +1,12 @@
 -- "Every refusal leaves session and out buffer unchanged and raises nothing; only 11 from an accept removes the request."
 use mathlib.Core.Path.{◌≡◌, refl}
 use mathlib.Core.Bool.{Bool, true, false}
-use Rattle.numbers.proofs.ChooseLaws.{pick_elim}
+use Rattle.std.specs.Prelude.{Option, Some, None}
 use Rattle.text.specs.declared.ids.StreamId.{StreamId}
-use Rattle.tables.specs.declared.requests.RequestFound.{RequestFound}
+use Rattle.tables.specs.declared.requests.Request.{Request}
 use Rattle.tables.specs.declared.requests.RequestKind.{RequestKind}
 use Rattle.tables.specs.declared.requests.RequestKind.TheVariants.{Connect as ConnectKind, Publish as PublishKind, Play as PlayKind}
 use Rattle.tables.specs.declared.streams.Stream.{Stream}
-use Rattle.tables.specs.declared.streams.StreamFound.{StreamFound}
 use Rattle.tables.specs.declared.streams.StreamState.{StreamState}
 use Rattle.tables.specs.declared.streams.StreamState.TheVariants.{Created, Publishing, Playing, Completed}
 use Rattle.wishes.specs.declared.outcome.Action.{Action}
@@ -20,9 +19,10 @@ use Rattle.session.specs.declared.decision.Reply.{Reply}
 use Rattle.session.proofs.RefusalTheorems.{Fate, done, either, kept}
 use Rattle.decisions.specs.Answers.{accept_request, finish_playing, finished, granted, on_waiting, playing, publishing, reject_request, settled}
 
-pub rejected_fate : (q : RequestFound) (short : Bool) → Fate (reject_request q short)
+pub rejected_fate : (q : Option Request) (short : Bool) → Fate (reject_request q short)
 unfolding reject_request on_waiting
-rejected_fate q short = either q.found _ _ (either short _ _ (done refl) (kept TextTooLong refl)) (kept NoSuchRequest refl)
+rejected_fate (Some r) short = either short _ _ (done refl) (kept TextTooLong refl)
+rejected_fate None short = kept NoSuchRequest refl
 
 finishes : (x : StreamState) (id : StreamId) (e : Stream) → Fate (finished x id e)
 finishes Created id e = kept _ refl
@@ -30,26 +30,28 @@ finishes Publishing id e = kept _ refl
 finishes Playing id e = done refl
 finishes Completed id e = kept _ refl
 
-pub finished_fate : (e : StreamFound) (id : StreamId) → Fate (finish_playing e id)
+pub finished_fate : (e : Option Stream) (id : StreamId) → Fate (finish_playing e id)
 unfolding finish_playing
-finished_fate e id = either e.found _ _ (finishes e.stream.state id e.stream) (kept _ refl)
+finished_fate (Some e) id = finishes e.state id e
+finished_fate None id = kept _ refl
 
 -- an accept may also be 11, and then the request, which was found, is gone
-pub data AcceptFate (q : RequestFound) (d : Decision) : Type 0 where
+pub data AcceptFate (q : Option Request) (d : Decision) : Type 0 where
   fate : Fate d → AcceptFate q d
-  gone : q.found ≡ true → (action : Action) (stream : StreamId) → d ≡ refusing_with (WrongStream action stream) (dropping q.request) → AcceptFate q d
+  gone : (r : Request) → q ≡ Some r → (action : Action) (stream : StreamId) → d ≡ refusing_with (WrongStream action stream) (dropping r) → AcceptFate q d
 
-module _ (q : RequestFound) (h : q.found ≡ true) where
-  settle : (found : Bool) (action : Action) (reply : Reply) (x : Stream) → AcceptFate q (settled found action q.request reply x)
+module _ (r : Request) where
+  settle : (found : Bool) (action : Action) (reply : Reply) (x : Stream) → AcceptFate (Some r) (settled found action r reply x)
   unfolding settled
   settle true action reply x = fate (done refl)
-  settle false action reply x = gone h action q.request.stream refl
+  settle false action reply x = gone r refl action r.stream refl
 
-  grants : (k : RequestKind) (found : Bool) → AcceptFate q (granted k q.request found)
+  grants : (k : RequestKind) (found : Bool) → AcceptFate (Some r) (granted k r found)
   grants ConnectKind found = fate (done refl)
-  grants PublishKind found = settle found Publishes _ (publishing q.request)
-  grants PlayKind found = settle found Plays _ (playing q.request)
+  grants PublishKind found = settle found Publishes _ (publishing r)
+  grants PlayKind found = settle found Plays _ (playing r)
 
-pub accepted_fate : (q : RequestFound) (found : Bool) → AcceptFate q (accept_request q found)
+pub accepted_fate : (q : Option Request) (found : Bool) → AcceptFate q (accept_request q found)
 unfolding accept_request on_waiting
-accepted_fate q found = pick_elim (AcceptFate q) _ _ q.found (λ h. grants q h q.request.kind found) (λ h. fate (kept NoSuchRequest refl))
+accepted_fate (Some r) found = grants r r.kind found
+accepted_fate None found = fate (kept NoSuchRequest refl)

@@ -1,16 +1,15 @@
 -- The application's decisions: accept and reject a request, finish a play.
-use Rattle.std.specs.Prelude.{Bool}
+use Rattle.std.specs.Prelude.{Bool, false, Option, Some, None}
+use Rattle.std.specs.Option.{is_some}
 use Rattle.numbers.specs.Choose.{pick}
 use Rattle.text.specs.Names.{empty_name}
 use Rattle.text.specs.declared.ids.RequestId.{RequestId}
 use Rattle.text.specs.declared.ids.StreamId.{StreamId}
 use Rattle.text.specs.declared.words.PublishMode.TheVariants.{Live}
 use Rattle.tables.specs.declared.requests.Request.{Request}
-use Rattle.tables.specs.declared.requests.RequestFound.{RequestFound}
 use Rattle.tables.specs.declared.requests.RequestKind.{RequestKind}
 use Rattle.tables.specs.declared.requests.RequestKind.TheVariants.{Connect, Publish, Play}
 use Rattle.tables.specs.declared.streams.Stream.{Stream}
-use Rattle.tables.specs.declared.streams.StreamFound.{StreamFound}
 use Rattle.tables.specs.declared.streams.StreamState.{StreamState}
 use Rattle.tables.specs.declared.streams.StreamState.TheVariants.{Created, Publishing, Playing, Completed}
 use Rattle.wishes.specs.declared.outcome.Action.{Action}
@@ -25,8 +24,9 @@ use Rattle.session.specs.declared.decision.Reply.TheVariants.{ConnectAccepted, P
 use Rattle.session.specs.declared.session.Session.{Session}
 
 -- 10: "no waiting request has this number"
-unfoldable pub on_waiting : RequestFound → (Request → Decision) → Decision
-on_waiting q f = pick q.found (f q.request) (refusing NoSuchRequest)
+unfoldable pub on_waiting : Option Request → (Request → Decision) → Decision
+on_waiting (Some r) f = f r
+on_waiting None f = refusing NoSuchRequest
 
 -- ---- "Accepting publish or play sets that state from whatever stood there, with no finished event."
 -- 11: "accepted request's stream is missing": the request is gone all the same
@@ -45,7 +45,7 @@ granted Connect r found = replying (ConnectAccepted r.transaction) r.name (joini
 granted Publish r found = settled found Publishes r (PublishAccepted r.stream) (publishing r)
 granted Play r found = settled found Plays r (PlayAccepted r.stream) (playing r)
 
-unfoldable pub accept_request : RequestFound → Bool → Decision
+unfoldable pub accept_request : Option Request → Bool → Decision
 accept_request q found = on_waiting q (λ (r : Request). granted r.kind r found)
 
 -- ---- "Rejecting removes the request only." "A reject uses the connect's transaction on stream 0, otherwise transaction 0 on the request's stream."
@@ -55,7 +55,7 @@ rejection Publish r = Rejected 0 r.stream
 rejection Play r = Rejected 0 r.stream
 
 -- 13: "reject code or description over 256 bytes"
-unfoldable pub reject_request : RequestFound → Bool → Decision
+unfoldable pub reject_request : Option Request → Bool → Decision
 reject_request q short = on_waiting q (λ (r : Request). pick short (replying (rejection r.kind r) empty_name (dropping r)) (refusing TextTooLong))
 
 -- ---- "Finishing turns Playing into Completed." 11: "finished stream is not Playing"
@@ -68,12 +68,17 @@ finished Publishing id e = refusing (WrongStream Completes id)
 finished Playing id e = replying (PlayFinished id) e.key (setting (completed id))
 finished Completed id e = refusing (WrongStream Completes id)
 
-unfoldable pub finish_playing : StreamFound → StreamId → Decision
-finish_playing e id = pick e.found (finished e.stream.state id e.stream) (refusing (WrongStream Completes id))
+unfoldable pub finish_playing : Option Stream → StreamId → Decision
+finish_playing (Some e) id = finished e.state id e
+finish_playing None id = refusing (WrongStream Completes id)
 
 -- ---- the same of a session
+abbrev pub stream_there : Session → Option Request → Bool
+stream_there s (Some r) = is_some (stream_at s r.stream)
+stream_there s None = false
+
 abbrev pub accepted : Session → RequestId → Decision
-accepted s id = accept_request (request_at s id) (stream_at s (request_at s id).request.stream).found
+accepted s id = accept_request (request_at s id) (stream_there s (request_at s id))
 
 abbrev pub rejected : Session → RequestId → Bool → Decision
 rejected s id short = reject_request (request_at s id) short

@@ -3,7 +3,7 @@ use mathlib.Core.Path.{◌≡◌, refl}
 use Prim.Native.Nat.{ℕ, ◌≤◌}
 use native.Mathlib.Omega.{arith}
 use mathlib.Core.Bool.{true}
-use mathlib.Core.Option.{some}
+use Rattle.std.specs.Prelude.{Some}
 use lib.Dec.{leb}
 use lib.ListN.{length}
 use borrow.Author.Tests.{le-leb, leb-true, lt-leb, ne_eqb}
@@ -59,18 +59,18 @@ module _ (s : Session) (h : Sound s) where
   unfolding with_changed
   stream_changed e k = record { version = h.version; app = h.app; streams = change_sound stream_number stream_name _ _ _ e h.streams k; requests = h.requests }
 
-  stream_removed : (x : ℕ) (e : Stream) → stream_of s x ≡ some e → Sound (without_stream s x)
+  stream_removed : (x : ℕ) (e : Stream) → stream_of s x ≡ Some e → Sound (without_stream s x)
   unfolding without_stream
   stream_removed x e f = record { version = h.version; app = h.app; streams = remove_sound stream_number stream_name _ _ _ no_stream x e h.streams f; requests = h.requests }
 
-  request_removed : (n : ℕ) (r : Request) → request_of s n ≡ some r → Sound (without_request s n)
+  request_removed : (n : ℕ) (r : Request) → request_of s n ≡ Some r → Sound (without_request s n)
   unfolding without_request
   request_removed n r f = record { version = h.version; app = h.app; streams = h.streams; requests = remove_sound request_number request_name _ _ _ no_request n r h.requests f }
 
   app_set : (name : Name) → name.len ≤ 128 → Sound (connected_to s name)
   app_set name k = record { version = h.version; app = le-leb name.len 128 k; streams = h.streams; requests = h.requests }
 
-  pub request_short : (n : ℕ) (r : Request) → request_of s n ≡ some r → r.name.len ≤ 128
+  pub request_short : (n : ℕ) (r : Request) → request_of s n ≡ Some r → r.name.len ≤ 128
   request_short n r f = found_in request_number request_name _ _ _ n r h.requests f
 
 encoding_set : (t : Session) (encoding : ℕ) → Sound t → Sound (with_encoding t encoding)

@@ -1,17 +1,14 @@
 -- A session: what a start makes, what connected means, refusal 15, and its parts changed one at a time.
-use Rattle.std.specs.Prelude.{ℕ, ◌+◌, ◌-◌, Bool, true, false, ◌&&◌, List, eqb, leb, replicate, set, take}
-use Rattle.std.proofs.Math.Option.{Option}
+use Rattle.std.specs.Prelude.{ℕ, ◌+◌, ◌-◌, Bool, true, false, ◌&&◌, List, Option, eqb, leb, replicate, set, take}
 use Rattle.numbers.specs.Choose.{pick}
 use Rattle.text.specs.Names.{empty_name}
 use Rattle.text.specs.declared.names.Name.{Name}
 use Rattle.text.specs.declared.ids.RequestId.{RequestId}
 use Rattle.text.specs.declared.ids.StreamId.{StreamId}
-use Rattle.tables.specs.Entries.{found_request, found_stream, no_request, no_stream, request_name, request_number, stream_name, stream_number}
+use Rattle.tables.specs.Entries.{no_request, no_stream, request_name, request_number, stream_name, stream_number}
 use Rattle.tables.specs.Tables.{changed, look, removed, table_sound}
 use Rattle.tables.specs.declared.requests.Request.{Request}
-use Rattle.tables.specs.declared.requests.RequestFound.{RequestFound}
 use Rattle.tables.specs.declared.streams.Stream.{Stream}
-use Rattle.tables.specs.declared.streams.StreamFound.{StreamFound}
 use Rattle.session.specs.declared.session.Session.{Session}
 use Rattle.session.specs.declared.session.SessionState.{SessionState}
 use Rattle.session.specs.declared.session.SessionState.TheVariants.{Started, Connected}
@@ -61,12 +58,11 @@ stream_of s x = look stream_number x (take s.stream_count s.streams)
 abbrev pub request_of : Session → ℕ → Option Request
 request_of s n = look request_number n (take s.request_count s.requests)
 
--- what a search says
-abbrev pub stream_at : Session → StreamId → StreamFound
-stream_at s id = found_stream (stream_of s id.0)
+abbrev pub stream_at : Session → StreamId → Option Stream
+stream_at s id = stream_of s id.0
 
-abbrev pub request_at : Session → RequestId → RequestFound
-request_at s id = found_request (request_of s id.0)
+abbrev pub request_at : Session → RequestId → Option Request
+request_at s id = request_of s id.0
 
 -- ---- one part changed
 -- the number after one that was given; 4,294,967,295 never is

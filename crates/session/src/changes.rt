@@ -1,17 +1,14 @@
 // What a decision changes of a session, and the session after it.
-ghost use Rattle.std.specs.Prelude.{◌≡◌, ◌-◌};
+ghost use Rattle.std.specs.Prelude.{◌≡◌};
 ghost use Rattle.session.specs.Changes.{applied, applied_by, no_change, of_request, of_stream};
 ghost use Rattle.session.specs.State.{connected_to, following, one_more, with_changed, with_encoding, with_request, with_stream, without_request, without_stream};
 
 use crate::session::{Session, SessionState};
-use tables::{
-    Request, Stream, append_request, append_stream, change_stream, no_request, no_stream,
-    remove_request, remove_stream,
-};
+use tables::{Request, Stream, append, change, no_request, no_stream, remove};
 use text::{Name, RequestId, StreamId};
 
-// An enum can't hold an array: the stream and the request stand beside it.
-#[derive(Clone, Copy)]
+// The arrays are written by the effect alone (crates/written), so the stream and the request stand beside it.
+#[derive(Clone, Copy, Debug, PartialEq, Eq)]
 pub enum Effect {
     Nothing,
     StreamMade,
@@ -41,21 +38,19 @@ pub fn no_change() -> Change
 pub fn of_stream(effect: Effect, stream: Stream) -> Change
     ensures { result ≡ of_stream effect stream }
 {
-    let request = no_request();
     Change {
         effect,
         stream,
-        request,
+        request: no_request(),
     }
 }
 
 pub fn of_request(effect: Effect, request: Request) -> Change
     ensures { result ≡ of_request effect request }
 {
-    let stream = no_stream();
     Change {
         effect,
-        stream,
+        stream: no_stream(),
         request,
     }
 }
@@ -64,109 +59,79 @@ pub fn of_request(effect: Effect, request: Request) -> Change
 pub fn number_after(n: u32) -> u32
     ensures { result ≡ following n }
 {
-    if n == 4294967295 { n } else { n + 1 }
+    n.saturating_add(1)
 }
 
-// A count after an append, and after a removal.
+// A count after an append.
 pub fn one_more(n: usize) -> usize
     ensures { result ≡ one_more n }
 {
-    if 16 <= n { n } else { n + 1 }
-}
-
-pub fn one_less(n: usize) -> usize
-    ensures { result ≡ n - 1 }
-{
-    if 0 < n { n - 1 } else { 0 }
+    if n < 16 { n + 1 } else { n }
 }
 
 // A new stream, under the next number.
-fn with_stream(session: Session, stream: Stream) -> Session
+#[tactic(auto, unfolding(crate::specs::State::with_stream))]
+fn with_stream(mut session: Session, stream: Stream) -> Session
     ensures { result ≡ with_stream session stream }
 {
-    let streams = session.streams;
-    let more = append_stream(streams, session.stream_count, stream);
-    let mut t = session;
-    t.next_stream = number_after(session.next_stream);
-    t.stream_count = one_more(session.stream_count);
-    t.streams = more;
-    t
+    let count = session.stream_count;
+    append(&mut session.streams, count, stream);
+    session.next_stream = number_after(session.next_stream);
+    session.stream_count = one_more(count);
+    session
 }
 
 // A new request, under the next number.
-fn with_request(session: Session, request: Request) -> Session
+#[tactic(auto, unfolding(crate::specs::State::with_request))]
+fn with_request(mut session: Session, request: Request) -> Session
     ensures { result ≡ with_request session request }
 {
-    let requests = session.requests;
-    let more = append_request(requests, session.request_count, request);
-    let mut t = session;
-    t.next_request = number_after(session.next_request);
-    t.request_count = one_more(session.request_count);
-    t.requests = more;
-    t
+    let count = session.request_count;
+    append(&mut session.requests, count, request);
+    session.next_request = number_after(session.next_request);
+    session.request_count = one_more(count);
+    session
 }
 
 // The stream of a number becomes this one.
-fn with_changed(session: Session, stream: Stream) -> Session
+#[tactic(auto, unfolding(crate::specs::State::with_changed))]
+fn with_changed(mut session: Session, stream: Stream) -> Session
     ensures { result ≡ with_changed session stream }
 {
-    let streams = session.streams;
-    let now = change_stream(streams, session.stream_count, stream);
-    let mut t = session;
-    t.streams = now;
-    t
+    let count = session.stream_count;
+    change(&mut session.streams, count, stream);
+    session
 }
 
-fn without_stream(session: Session, id: StreamId) -> Session
+#[tactic(auto, unfolding(crate::specs::State::without_stream))]
+fn without_stream(mut session: Session, id: StreamId) -> Session
     ensures { result ≡ without_stream session id.0 }
 {
-    let streams = session.streams;
-    let left = remove_stream(streams, session.stream_count, id);
-    let mut t = session;
-    t.stream_count = one_less(session.stream_count);
-    t.streams = left;
-    t
+    let count = session.stream_count;
+    remove(&mut session.streams, count, id);
+    session.stream_count = count.saturating_sub(1);
+    session
 }
 
-fn without_request(session: Session, id: RequestId) -> Session
+#[tactic(auto, unfolding(crate::specs::State::without_request))]
+fn without_request(mut session: Session, id: RequestId) -> Session
     ensures { result ≡ without_request session id.0 }
 {
-    let requests = session.requests;
-    let left = remove_request(requests, session.request_count, id);
-    let mut t = session;
-    t.request_count = one_less(session.request_count);
-    t.requests = left;
-    t
-}
-
-fn with_encoding(session: Session, encoding: u64) -> Session
-    ensures { result ≡ with_encoding session encoding }
-{
-    let mut t = session;
-    t.encoding = encoding;
-    t
+    let count = session.request_count;
+    remove(&mut session.requests, count, id);
+    session.request_count = count.saturating_sub(1);
+    session
 }
 
 // Connected never ends.
 fn connected_to(session: Session, app: Name) -> Session
     ensures { result ≡ connected_to session app }
 {
-    let version = session.version;
-    let streams = session.streams;
-    let requests = session.requests;
     Session {
-        start: session.start,
-        version,
         state: SessionState::Connected,
         has_app: true,
         app,
-        encoding: session.encoding,
-        next_stream: session.next_stream,
-        next_request: session.next_request,
-        stream_count: session.stream_count,
-        request_count: session.request_count,
-        streams,
-        requests,
+        ..session
     }
 }
 
@@ -179,13 +144,12 @@ fn apply_effect(effect: Effect, session: Session, stream: Stream, request: Reque
         Effect::StreamSet => with_changed(session, stream),
         Effect::StreamRemoved => without_stream(session, stream.id),
         Effect::RequestFiled => with_request(session, request),
-        Effect::ConnectFiled { encoding } => with_encoding(
-            with_request(session, request),
+        Effect::ConnectFiled { encoding } => Session {
             encoding,
-        ),
+            ..with_request(session, request)
+        },
         Effect::ConnectAccepted => {
-            let name = request.name;
-            connected_to(without_request(session, request.id), name)
+            connected_to(without_request(session, request.id), request.name)
         }
         Effect::StreamAccepted => with_changed(without_request(session, request.id), stream),
         Effect::RequestRemoved => without_request(session, request.id),
@@ -193,11 +157,9 @@ fn apply_effect(effect: Effect, session: Session, stream: Stream, request: Reque
 }
 
 // The session after a change.
+#[tactic(auto, unfolding(crate::specs::Changes::applied))]
 pub fn apply(session: Session, change: Change) -> Session
     ensures { result ≡ applied session change }
 {
-    let effect = change.effect;
-    let stream = change.stream;
-    let request = change.request;
-    apply_effect(effect, session, stream, request)
+    apply_effect(change.effect, session, change.stream, change.request)
 }

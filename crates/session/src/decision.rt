@@ -39,7 +39,7 @@ pub enum Event {
 }
 
 // Why a command is answered by an error record.
-#[derive(Clone, Copy)]
+#[derive(Clone, Copy, Debug, PartialEq, Eq)]
 pub enum CommandFault {
     PublishFew,
     PublishUnconnected,
@@ -91,7 +91,16 @@ pub struct Decision {
 pub fn quiet(change: Change) -> Decision
     ensures { result ≡ quietly change }
 {
-    replied(Reply::Nothing, empty_name(), change)
+    Decision {
+        outcome: Outcome::Done,
+        event: Event::NoEvent,
+        app: empty_name(),
+        key: empty_name(),
+        metadata: no_metadata(),
+        reply: Reply::Nothing,
+        name: empty_name(),
+        change,
+    }
 }
 
 pub fn nothing_done() -> Decision
@@ -104,19 +113,9 @@ pub fn nothing_done() -> Decision
 pub fn refused_with(outcome: Outcome, change: Change) -> Decision
     ensures { result ≡ refusing_with outcome change }
 {
-    let app = empty_name();
-    let key = empty_name();
-    let name = empty_name();
-    let metadata = no_metadata();
     Decision {
         outcome,
-        event: Event::NoEvent,
-        app,
-        key,
-        metadata,
-        reply: Reply::Nothing,
-        name,
-        change,
+        ..quiet(change)
     }
 }
 
@@ -129,18 +128,10 @@ pub fn refused(outcome: Outcome) -> Decision
 pub fn replied(reply: Reply, name: Name, change: Change) -> Decision
     ensures { result ≡ replying reply name change }
 {
-    let app = empty_name();
-    let key = empty_name();
-    let metadata = no_metadata();
     Decision {
-        outcome: Outcome::Done,
-        event: Event::NoEvent,
-        app,
-        key,
-        metadata,
         reply,
         name,
-        change,
+        ..quiet(change)
     }
 }
 
@@ -153,15 +144,11 @@ pub fn raised(
 ) -> Decision
     ensures { result ≡ raising event app key metadata change }
 {
-    let name = empty_name();
     Decision {
-        outcome: Outcome::Done,
         event,
         app,
         key,
         metadata,
-        reply: Reply::Nothing,
-        name,
-        change,
+        ..quiet(change)
     }
 }

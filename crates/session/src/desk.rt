@@ -4,7 +4,7 @@ ghost use Rattle.session.specs.Desk.{desk_of};
 ghost use Rattle.session.specs.State.{request_at, stream_at};
 
 use crate::session::{Session, is_connected};
-use tables::{RequestFound, StreamFound, find_request, find_stream};
+use tables::{Request, Stream, find};
 use text::{Name, RequestId, StreamId};
 
 #[derive(Clone, Copy)]
@@ -15,36 +15,32 @@ pub struct Desk {
     pub next_request: u32,
     pub stream_count: usize,
     pub request_count: usize,
-    pub seen: StreamFound,
+    pub seen: Option<Stream>,
 }
 
-pub fn stream_at(session: Session, id: StreamId) -> StreamFound
+pub fn stream_at(session: Session, id: StreamId) -> Option<Stream>
     ensures { result ≡ stream_at session id }
 {
-    let streams = session.streams;
-    find_stream(streams, session.stream_count, id)
+    find(&session.streams, session.stream_count, id)
 }
 
-pub fn request_at(session: Session, id: RequestId) -> RequestFound
+pub fn request_at(session: Session, id: RequestId) -> Option<Request>
     ensures { result ≡ request_at session id }
 {
-    let requests = session.requests;
-    find_request(requests, session.request_count, id)
+    find(&session.requests, session.request_count, id)
 }
 
+#[tactic(auto, unfolding(crate::specs::Desk::desk_of))]
 pub fn desk_of(session: Session, id: StreamId) -> Desk
     ensures { result ≡ desk_of session id }
 {
-    let connected = is_connected(session);
-    let app = session.app;
-    let seen = stream_at(session, id);
     Desk {
-        connected,
-        app,
+        connected: is_connected(session),
+        app: session.app,
         next_stream: session.next_stream,
         next_request: session.next_request,
         stream_count: session.stream_count,
         request_count: session.request_count,
-        seen,
+        seen: stream_at(session, id),
     }
 }

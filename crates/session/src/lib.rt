@@ -9,7 +9,7 @@ mod names;
 mod session;
 
 pub use changes::{
-    Change, Effect, apply, no_change, number_after, of_request, of_stream, one_less, one_more,
+    Change, Effect, apply, no_change, number_after, of_request, of_stream, one_more,
 };
 pub use decision::{
     CommandFault, Decision, Event, Reply, nothing_done, quiet, raised, refused, refused_with,

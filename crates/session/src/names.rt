@@ -9,42 +9,44 @@ use wishes::Action;
 fn word(part: &[u8]) -> Name
     ensures { result ≡ word_of part.now }
 {
-    let read = read_name(part);
-    read.name
+    read_name(part).name
+}
+
+fn event_text(event: Event) -> &'static [u8]
+    ensures { result.now ≡ event_text event }
+{
+    match event {
+        Event::NoEvent => b"",
+        Event::ConnectionRequested(_) => b"ConnectionRequested",
+        Event::PublishStreamRequested { .. } => b"PublishStreamRequested",
+        Event::PlayStreamRequested { .. } => b"PlayStreamRequested",
+        Event::PublishStreamFinished => b"PublishStreamFinished",
+        Event::PlayStreamFinished => b"PlayStreamFinished",
+        Event::StreamMetadataChanged => b"StreamMetadataChanged",
+        Event::AudioDataReceived { .. } => b"AudioDataReceived",
+        Event::VideoDataReceived { .. } => b"VideoDataReceived",
+        Event::PingResponseReceived { .. } => b"PingResponseReceived",
+    }
+}
+
+fn action_text(action: Action) -> &'static [u8]
+    ensures { result.now ≡ action_text action }
+{
+    match action {
+        Action::Publish => b"publish",
+        Action::Play => b"play",
+        Action::Complete => b"complete",
+    }
 }
 
 pub fn event_name(event: Event) -> Name
     ensures { result ≡ word_of (event_text event) }
 {
-    match event {
-        Event::NoEvent => word(b""),
-        Event::ConnectionRequested(_) => word(b"ConnectionRequested"),
-        Event::PublishStreamRequested {
-            request: _,
-            mode: _,
-        } => word(b"PublishStreamRequested"),
-        Event::PlayStreamRequested {
-            request: _,
-            start: _,
-            duration: _,
-            reset: _,
-            stream: _,
-        } => word(b"PlayStreamRequested"),
-        Event::PublishStreamFinished => word(b"PublishStreamFinished"),
-        Event::PlayStreamFinished => word(b"PlayStreamFinished"),
-        Event::StreamMetadataChanged => word(b"StreamMetadataChanged"),
-        Event::AudioDataReceived { timestamp: _ } => word(b"AudioDataReceived"),
-        Event::VideoDataReceived { timestamp: _ } => word(b"VideoDataReceived"),
-        Event::PingResponseReceived { timestamp: _ } => word(b"PingResponseReceived"),
-    }
+    word(event_text(event))
 }
 
 pub fn action_name(action: Action) -> Name
     ensures { result ≡ word_of (action_text action) }
 {
-    match action {
-        Action::Publish => word(b"publish"),
-        Action::Play => word(b"play"),
-        Action::Complete => word(b"complete"),
-    }
+    word(action_text(action))
 }

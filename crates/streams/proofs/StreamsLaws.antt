@@ -2,7 +2,7 @@
 use mathlib.Core.Path.{◌≡◌, sym, ap, ◌∙◌}
 use Prim.Native.Nat.{ℕ, ◌≤◌, ◌<◌}
 use mathlib.Core.Bool.{Bool, true, false}
-use mathlib.Core.Option.{Option, some, none}
+use Rattle.std.specs.Prelude.{Option, Some, None}
 use borrow.Author.Tests.{eq-eqb, ne_eqb, le-leb, lt-leb}
 use Rattle.text.specs.Names.{empty_name}
 use Rattle.text.specs.declared.ids.StreamId.{StreamId}
@@ -20,7 +20,7 @@ use Rattle.session.specs.declared.decision.Event.{Event}
 use Rattle.session.specs.declared.decision.Reply.TheVariants.{StreamCreated}
 use Rattle.session.specs.declared.desk.Desk.{Desk}
 use Rattle.session.specs.declared.session.Session.{Session}
-use Rattle.streams.specs.Streams.{create_stream, created, described, ended, frame_of, following_stream, no_frame, on_stream, shown, shown_found}
+use Rattle.streams.specs.Streams.{create_stream, created, described, ended, frame_of, following_stream, no_frame, on_stream, shown, shown_found, where_seen}
 use Rattle.streams.specs.declared.streams.Frame.{Frame}
 
 -- ---- createStream
@@ -45,13 +45,13 @@ module _ (d : Desk) (f : Stream → Decision) (r : Decision) where
   on_off e h = e ∙ simp h
 
   module _ (h : d.connected ≡ true) where
-    pub on_none : r ≡ nothing → d.seen.found ≡ false → r ≡ on_stream d f
+    pub on_none : r ≡ nothing → d.seen ≡ None → r ≡ on_stream d f
     unfolding on_stream
-    on_none e g = e ∙ simp (h, g)
+    on_none e g = e ∙ simp h (ap (λ (o : Option Stream). where_seen o f) (sym g))
 
-    pub on_some : r ≡ f d.seen.stream → d.seen.found ≡ true → r ≡ on_stream d f
+    pub on_some : (x : Stream) → r ≡ f x → d.seen ≡ Some x → r ≡ on_stream d f
     unfolding on_stream
-    on_some e g = e ∙ simp (h, g)
+    on_some x e g = e ∙ simp h (ap (λ (o : Option Stream). where_seen o f) (sym g))
 
 module _ (s : Session) (id : StreamId) (event : Event) (d : Frame) (c : Bool) (q : c ≡ connected s) where
   pub frame_off : d ≡ no_frame → c ≡ false → d ≡ frame_of s id event
@@ -59,11 +59,11 @@ module _ (s : Session) (id : StreamId) (event : Event) (d : Frame) (c : Bool) (q
   frame_off e h = e ∙ simp (sym q ∙ h)
 
   module _ (h : c ≡ true) where
-    pub frame_none : d ≡ no_frame → stream_of s id.0 ≡ none → d ≡ frame_of s id event
+    pub frame_none : d ≡ no_frame → stream_of s id.0 ≡ None → d ≡ frame_of s id event
     unfolding frame_of
     frame_none e g = e ∙ simp (sym q ∙ h) (ap (λ (o : Option Stream). shown_found o event s.app) (sym g))
 
-    pub frame_some : (e : Stream) → d ≡ shown e.state event s.app e.key → stream_of s id.0 ≡ some e → d ≡ frame_of s id event
+    pub frame_some : (e : Stream) → d ≡ shown e.state event s.app e.key → stream_of s id.0 ≡ Some e → d ≡ frame_of s id event
     unfolding frame_of
     frame_some e k g = k ∙ simp (sym q ∙ h) (ap (λ (o : Option Stream). shown_found o event s.app) (sym g))
 

@@ -1,6 +1,5 @@
 -- createStream, closeStream, deleteStream, metadata, audio and video.
-use Rattle.std.specs.Prelude.{ℕ, Bool, eqb, leb}
-use Rattle.std.proofs.Math.Option.{Option, some, none}
+use Rattle.std.specs.Prelude.{ℕ, Bool, Option, Some, None, eqb, leb}
 use Rattle.numbers.specs.Choose.{pick}
 use Rattle.text.specs.Names.{empty_name}
 use Rattle.text.specs.declared.ids.StreamId.{StreamId}
@@ -40,8 +39,12 @@ create_stream d transaction =
     (replying (StreamCreated transaction (following_stream d)) empty_name (making (created (following_stream d)))))
 
 -- ---- what happens where a connected session has the stream, and nothing where not
+abbrev pub where_seen : Option Stream → (Stream → Decision) → Decision
+where_seen (Some e) f = f e
+where_seen None f = nothing
+
 unfoldable pub on_stream : Desk → (Stream → Decision) → Decision
-on_stream d f = pick d.connected (pick d.seen.found (f d.seen.stream) nothing) nothing
+on_stream d f = pick d.connected (where_seen d.seen f) nothing
 
 -- "Publishing or Playing raises PublishStreamFinished or PlayStreamFinished."
 abbrev pub ended : StreamState → Name → Name → Change → Decision
@@ -78,8 +81,8 @@ shown Playing event app key = no_frame
 shown Completed event app key = no_frame
 
 abbrev pub shown_found : Option Stream → Event → Name → Frame
-shown_found none event app = no_frame
-shown_found (some e) event app = shown e.state event app e.key
+shown_found None event app = no_frame
+shown_found (Some e) event app = shown e.state event app e.key
 
 unfoldable pub frame_of : Session → StreamId → Event → Frame
 frame_of s id event = pick (connected s) (shown_found (stream_of s id.0) event s.app) no_frame

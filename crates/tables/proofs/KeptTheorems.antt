@@ -5,7 +5,7 @@ use native.Mathlib.Numerals.{add-one}
 use native.Mathlib.Omega.{arith}
 use mathlib.Core.Bool.{Bool, true, false, not, true≢false}
 use mathlib.Core.List.{List, [], ◌∷◌, ◌++◌}
-use mathlib.Core.Option.{Option, some}
+use Rattle.std.specs.Prelude.{Option, Some}
 use lib.Dec.{leb, ltb}
 use lib.ListN.{length, take, drop, set, length-append, length-set}
 use lib.Seq.{length-take-le, take-append_seam, take-suc-set}
@@ -104,20 +104,20 @@ module _ {A : Type 0} (number : A → ℕ) (name : A → Name) where
       (λ q. s.rest) (λ n. passing next x (remove number id xs) (record { short = s.short; under = s.under; once = has_remove (number x) id xs s.once; rest = sound_remove next id xs s.rest }))
 
   -- ---- what is found has a short name
-  pub found_short : (next id : ℕ) (xs : List A) (e : A) → sound number name next xs ≡ true → look number id xs ≡ some e → (name e).len ≤ 128
+  pub found_short : (next id : ℕ) (xs : List A) (e : A) → sound number name next xs ≡ true → look number id xs ≡ Some e → (name e).len ≤ 128
   unfolding look
   found_short next id [] e h f = let z : ◌≡◌ {A = ℕ} 0 1 = cc in absurd (omega arith)
   found_short next id (x ∷ xs) e h f =
       let s = passes next x xs h in
-      pick_eq (λ (o : Option A). o ≡ some e → (name e).len ≤ 128) (some x) (look number id xs) (number x) id
+      pick_eq (λ (o : Option A). o ≡ Some e → (name e).len ≤ 128) (Some x) (look number id xs) (number x) id
       (λ q u. let z : x ≡ e = cc in subst (λ (y : A). (name y).len ≤ 128) z s.short) (λ n u. found_short next id xs e s.rest u) f
 
   -- and the number that was looked for
-  pub found_number : (id : ℕ) (xs : List A) (e : A) → look number id xs ≡ some e → number e ≡ id
+  pub found_number : (id : ℕ) (xs : List A) (e : A) → look number id xs ≡ Some e → number e ≡ id
   unfolding look
   found_number id [] e f = let z : ◌≡◌ {A = ℕ} 0 1 = cc in absurd (omega arith)
   found_number id (x ∷ xs) e f =
-      pick_eq (λ (o : Option A). o ≡ some e → number e ≡ id) (some x) (look number id xs) (number x) id
+      pick_eq (λ (o : Option A). o ≡ Some e → number e ≡ id) (Some x) (look number id xs) (number x) id
       (λ q u. let z : x ≡ e = cc in subst (λ (y : A). number y ≡ id) z q) (λ n u. found_number id xs e u) f
 
   -- ---- lengths
@@ -126,7 +126,7 @@ module _ {A : Type 0} (number : A → ℕ) (name : A → Name) where
   length_change y [] = refl
   length_change y (x ∷ xs) = pick_eq (λ (l : List A). length l ≡ length (x ∷ xs)) (y ∷ xs) (x ∷ change number y xs) (number x) (number y) (λ q. refl) (λ n. ap suc (length_change y xs))
 
-  pub length_remove : (id : ℕ) (xs : List A) (e : A) → look number id xs ≡ some e → suc (length (remove number id xs)) ≡ length xs
+  pub length_remove : (id : ℕ) (xs : List A) (e : A) → look number id xs ≡ Some e → suc (length (remove number id xs)) ≡ length xs
   unfolding remove look
   length_remove id [] e h = let z : ◌≡◌ {A = ℕ} 0 1 = cc in absurd (omega arith)
   length_remove id (x ∷ xs) e h =
@@ -145,7 +145,7 @@ module _ {A : Type 0} (number : A → ℕ) (name : A → Name) where
         let k : m ≤ length (xs ++ ys) = omega (arith, length-append xs ys) in
         simp (le-leb m (length (xs ++ ys)) k, t, h)
 
-    pub found_in : (id : ℕ) (e : A) → table_sound number name next n l ≡ true → look number id (take n l) ≡ some e → (name e).len ≤ 128
+    pub found_in : (id : ℕ) (e : A) → table_sound number name next n l ≡ true → look number id (take n l) ≡ Some e → (name e).len ≤ 128
     found_in id e h f = found_short next id (take n l) e (counted h).1 f
 
     pub append_sound : (e : A) → table_sound number name next n l ≡ true → n < length l → number e ≡ next → (name e).len ≤ 128 → table_sound number name (next + 1) (n + 1) (set l n e) ≡ true
@@ -162,7 +162,7 @@ module _ {A : Type 0} (number : A → ℕ) (name : A → Name) where
         let c = counted h in
         again n next (change number y (take n l)) (drop n l) (length_change y (take n l) ∙ length-take-le n l c.0) (sound_change next y (take n l) c.1 k)
 
-    pub remove_sound : (blank : A) (id : ℕ) (e : A) → table_sound number name next n l ≡ true → look number id (take n l) ≡ some e → table_sound number name next (n - 1) (removed number blank id n l) ≡ true
+    pub remove_sound : (blank : A) (id : ℕ) (e : A) → table_sound number name next n l ≡ true → look number id (take n l) ≡ Some e → table_sound number name next (n - 1) (removed number blank id n l) ≡ true
     unfolding removed
     remove_sound blank id e h f =
         let c = counted h in

@@ -1,4 +1,3 @@
 pub mod TablesLaws
 pub mod SoundLaws
-pub mod EntriesLaws
 pub mod KeptTheorems

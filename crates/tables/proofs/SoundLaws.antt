@@ -6,7 +6,7 @@ use mathlib.Core.Bool.{Bool, true, false, ◌&&◌}
 use mathlib.Core.List.{List, [], ◌∷◌}
 use lib.Dec.{leb, ltb}
 use lib.ListN.{length, take, drop, get_or}
-use borrow.Author.Tests.{eq-eqb, ne_eqb, le-leb, lt-leb, lt-ltb, le-ltb, leb-true, ltb-true}
+use borrow.Author.Tests.{ne_eqb, le-leb, lt-leb, lt-ltb, le-ltb, leb-true, ltb-true}
 use Rattle.text.specs.declared.names.Name.{Name}
 use Rattle.tables.specs.Tables.{has, rises_from, sound, table_sound}
 use Rattle.tables.proofs.TablesLaws.{next_entry, no_entry}
@@ -16,20 +16,6 @@ both true b e = (refl, e)
 both false b e = let z : ◌≡◌ {A = Bool} false true = e in (z, let y : ◌≡◌ {A = ℕ} 0 1 = cc in absurd (omega arith))
 
 module _ {A : Type 0} (number : A → ℕ) (l : List A) (n : ℕ) where
-  -- ---- whether a number stands among those that are left
-  module _ (id i : ℕ) (r : Bool) (so : has number id (drop i (take n l)) ≡ r) where
-    pub has_here : (d : A) → i < n → n ≤ length l → number (get_or l i d) ≡ id → true ≡ r
-    unfolding has
-    has_here d h g e = sym (sym so ∙ ap (has number id) (next_entry l n i d h g) ∙ simp (eq-eqb (number (get_or l i d)) id e))
-
-    pub has_next : (d : A) → i < n → n ≤ length l → (number (get_or l i d) ≡ id → ⊥) → has number id (drop (i + 1) (take n l)) ≡ r
-    unfolding has
-    has_next d h g e = sym (sym so ∙ ap (has number id) (next_entry l n i d h g) ∙ simp (ne_eqb (number (get_or l i d)) id e))
-
-    pub has_none : n ≤ i → false ≡ r
-    unfolding has
-    has_none h = sym (sym so ∙ ap (has number id) (no_entry l n i h))
-
   module _ (name : A → Name) (next : ℕ) where
     -- ---- whether the rest is sound
     module _ (i : ℕ) (r : Bool) (so : sound number name next (drop i (take n l)) ≡ r) where
@@ -50,14 +36,6 @@ module _ {A : Type 0} (number : A → ℕ) (l : List A) (n : ℕ) where
             pub sound_twice : t ≡ true → false ≡ r
             unfolding sound
             sound_twice q = sym (sound_on d h g ∙ simp (le-leb (name (get_or l i d)).len 128 k, lt-ltb (number (get_or l i d)) next j, sym e ∙ q))
-
-            pub sound_next : t ≡ false → sound number name next (drop (i + 1) (take n l)) ≡ r
-            unfolding sound
-            sound_next q = sym (sound_on d h g ∙ simp (le-leb (name (get_or l i d)).len 128 k, lt-ltb (number (get_or l i d)) next j, sym e ∙ q))
-
-      pub sound_end : n ≤ i → true ≡ r
-      unfolding sound
-      sound_end h = sym (sym so ∙ ap (sound number name next) (no_entry l n i h))
 
     -- ---- whether the rest rises
     module _ (i low : ℕ) (r : Bool) (so : rises_from number name next low (drop i (take n l)) ≡ r) where
@@ -125,12 +103,3 @@ module _ {A : Type 0} (number : A → ℕ) (name : A → Name) (next : ℕ) wher
     pub too_many : length l < n → false ≡ table_sound number name next n l
     unfolding table_sound
     too_many h = simp (lt-leb n (length l) h)
-
-    module _ (h : n ≤ length l) (r : Bool) where
-      pub many_rise : r ≡ rises_from number name next 0 (take n l) → r ≡ true → true ≡ table_sound number name next n l
-      unfolding table_sound
-      many_rise e q = simp (le-leb n (length l) h, rises_sound 0 (take n l) (sym e ∙ q))
-
-      pub many_apart : r ≡ sound number name next (take n l) → r ≡ table_sound number name next n l
-      unfolding table_sound
-      many_apart e = e ∙ simp (le-leb n (length l) h)

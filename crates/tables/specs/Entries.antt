@@ -1,14 +1,11 @@
 -- The entries of the two tables: their numbers and names, and a blank one of each.
-use Rattle.std.specs.Prelude.{ℕ, true, false, []}
-use Rattle.std.proofs.Math.Option.{Option, some, none}
+use Rattle.std.specs.Prelude.{ℕ}
 use Rattle.text.specs.Names.{empty_name}
 use Rattle.text.specs.declared.names.Name.{Name}
 use Rattle.text.specs.declared.words.PublishMode.TheVariants.{Live}
 use Rattle.tables.specs.declared.requests.Request.{Request}
-use Rattle.tables.specs.declared.requests.RequestFound.{RequestFound}
 use Rattle.tables.specs.declared.requests.RequestKind.TheVariants.{Connect}
 use Rattle.tables.specs.declared.streams.Stream.{Stream}
-use Rattle.tables.specs.declared.streams.StreamFound.{StreamFound}
 use Rattle.tables.specs.declared.streams.StreamState.TheVariants.{Created}
 
 abbrev pub stream_number : Stream → ℕ
@@ -20,11 +17,6 @@ stream_name s = s.key
 abbrev pub no_stream : Stream
 no_stream = record { id = record { 0 = 0 }; state = Created; mode = Live; key = empty_name }
 
--- what a search says: a stream, or a blank one where there is none
-abbrev pub found_stream : Option Stream → StreamFound
-found_stream (some s) = record { found = true; stream = s }
-found_stream none = record { found = false; stream = no_stream }
-
 abbrev pub request_number : Request → ℕ
 request_number r = r.id.0
 
@@ -33,14 +25,3 @@ request_name r = r.name
 
 abbrev pub no_request : Request
 no_request = record { id = record { 0 = 0 }; kind = Connect; stream = record { 0 = 0 }; mode = Live; transaction = 0; name = empty_name }
-
-abbrev pub found_request : Option Request → RequestFound
-found_request (some r) = record { found = true; request = r }
-found_request none = record { found = false; request = no_request }
-
--- what a place past the end would hold, which is never read
-abbrev pub unread_stream : Stream
-unread_stream = record { id = record { 0 = 0 }; state = Created; mode = Live; key = record { bytes = []; len = 0 } }
-
-abbrev pub unread_request : Request
-unread_request = record { id = record { 0 = 0 }; kind = Connect; stream = record { 0 = 0 }; mode = Live; transaction = 0; name = record { bytes = []; len = 0 } }

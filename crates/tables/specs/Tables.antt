@@ -1,16 +1,13 @@
 -- Tables: a list of places, of which the first n are in use. Over any type of entry, and any number of places.
-use Rattle.std.specs.Prelude.{◌≡◌, ℕ, ◌+◌, ◌<◌, Bool, true, false, not, ◌&&◌, List, [], ◌∷◌, ◌++◌, eqb, leb, ltb, length, take, drop, get_or}
-use Rattle.std.proofs.Math.Option.{Option, some, none}
+use Rattle.std.specs.Prelude.{ℕ, ◌+◌, Bool, true, false, not, ◌&&◌, List, [], ◌∷◌, ◌++◌, Option, Some, None, eqb, leb, ltb, length, take, drop}
 use Rattle.numbers.specs.Choose.{pick}
 use Rattle.text.specs.declared.names.Name.{Name}
-use Rattle.tables.specs.declared.places.Place.{Place}
-use Rattle.tables.specs.declared.places.Place.TheVariants.{At, Missing}
 
 module _ {A : Type 0} (number : A → ℕ) where
   -- the first entry of a number
   unfoldable pub look : ℕ → List A → Option A
-  look id [] = none
-  look id (x ∷ xs) = pick (eqb (number x) id) (some x) (look id xs)
+  look id [] = None
+  look id (x ∷ xs) = pick (eqb (number x) id) (Some x) (look id xs)
 
   -- with that entry in the place of the first of its number
   unfoldable pub change : A → List A → List A
@@ -27,8 +24,8 @@ module _ {A : Type 0} (number : A → ℕ) where
   changed y n l = change y (take n l) ++ drop n l
 
   abbrev pub closed : A → List A → List A → List A → Option A → List A
-  closed blank rest past l (some x) = rest ++ blank ∷ past
-  closed blank rest past l none = l
+  closed blank rest past l (Some x) = rest ++ blank ∷ past
+  closed blank rest past l None = l
 
   -- a removal moves the later ones up and leaves a blank place behind them
   unfoldable pub removed : A → ℕ → ℕ → List A → List A
@@ -53,11 +50,6 @@ module _ {A : Type 0} (number : A → ℕ) where
     unfoldable pub rises_from : ℕ → List A → Bool
     rises_from low [] = true
     rises_from low (x ∷ xs) = leb low (number x) && (ltb (number x) next && (leb (name x).len 128 && rises_from (number x + 1) xs))
-
-  -- ---- what the code finds by place
-  abbrev pub Stands : ℕ → ℕ → List A → A → Place → Type 0
-  Stands id n l d (At p) = (p < n) × ((look id (take p l) ≡ none) × (number (get_or l p d) ≡ id))
-  Stands id n l d Missing = look id (take n l) ≡ none
 
 -- the first n without the one at p: the later ones moved up, and a blank behind them
 unfoldable pub shifted : {A : Type 0} → A → ℕ → ℕ → List A → List A

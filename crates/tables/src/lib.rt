@@ -2,18 +2,13 @@
 //
 // The entries in use stand first, as many as the count says. An append goes to the end, a removal moves the later
 // ones up and leaves a blank place behind them. A count that is handed in may be any number: what lies past the
-// sixteenth place is not there.
+// last place is not there.
 #![tactic(auto)]
 
-mod places;
 mod requests;
 mod streams;
+mod table;
 
-pub use requests::{
-    Request, RequestFound, RequestKind, append_request, find_request, no_request, remove_request,
-    requests_sound,
-};
-pub use streams::{
-    Stream, StreamFound, StreamState, append_stream, change_stream, find_stream, no_stream,
-    remove_stream, streams_sound,
-};
+pub use requests::{Request, RequestKind, no_request};
+pub use streams::{Stream, StreamState, no_stream};
+pub use table::{Entry, append, change, find, is_sound, remove};

@@ -1,4 +1,0 @@
-use Rattle.decisions.proofs.decisions.completed_stream.Goals as goal
-
-pub returns : goal.returns
-returns c = rw c.empty_name-key.ensures

@@ -1,4 +1,0 @@
-use Rattle.session.proofs.changes.of_stream.Goals as goal
-
-pub returns : goal.returns
-returns c = rw c.no_request-request.ensures

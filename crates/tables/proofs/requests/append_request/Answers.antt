@@ -1,7 +1,0 @@
-use native.Mathlib.Omega.{arith}
-use mathlib.Core.Path.{sym}
-use lib.Seq.{set_out}
-use Rattle.tables.proofs.requests.append_request.Goals as goal
-
-pub returns-else-count-lt16 : goal.returns-else-count-lt16
-returns-else-count-lt16 c = sym (set_out _ _ _ (omega arith))
