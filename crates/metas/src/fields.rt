@@ -18,10 +18,8 @@ fn whole(output: &mut impl Write, name: &[u8], set: bool, x: u32) -> io::Result<
 fn rate(output: &mut impl Write, set: bool, x: f32) -> io::Result<()> {
     if set {
         let single = numbers::single_of(numbers::bits_of_f32(x));
-        let mut four = [0u8; 4];
-        numbers::write_field_at(&mut four, 0, 4, single as u64);
         say(output, b"framerate=")?;
-        bytes(output, &four, 4)?;
+        bytes(output, &single.to_be_bytes(), 4)?;
         say(output, b" ")?;
     }
     Ok(())
@@ -29,23 +27,18 @@ fn rate(output: &mut impl Write, set: bool, x: f32) -> io::Result<()> {
 
 fn flag(output: &mut impl Write, set: bool, b: bool) -> io::Result<()> {
     if set {
-        if b {
-            say(output, b"stereo=1 ")?;
-        } else {
-            say(output, b"stereo=0 ")?;
-        }
+        say(output, if b { b"stereo=1 " } else { b"stereo=0 " })?;
     }
     Ok(())
 }
 
 fn encoder(output: &mut impl Write, set: bool, name: Name) -> io::Result<()> {
     if set {
-        let own = name.bytes;
         say(output, b"encoder=")?;
         if name.len == 0 {
             say(output, b"-")?;
         }
-        bytes(output, &own, name.len)?;
+        bytes(output, &name.bytes, name.len)?;
         say(output, b" ")?;
     }
     Ok(())

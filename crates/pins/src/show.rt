@@ -151,12 +151,11 @@ pub fn show_mode(output: &mut impl Write, word: &[u8]) -> io::Result<()> {
 pub fn show_name(output: &mut impl Write, part: &[u8]) -> io::Result<()> {
     let read = text::read_name(part);
     let name = read.name;
-    let bytes = name.bytes;
     say(output, b"a name of ")?;
     number(output, part.len() as u64)?;
     if read.fits {
         say(output, b" bytes fits and is \"")?;
-        say(output, text::text_of(&bytes, name.len))?;
+        say(output, text::text_of(&name.bytes, name.len))?;
         say(output, b"\"")?;
     } else {
         say(output, b" bytes is refused")?;
