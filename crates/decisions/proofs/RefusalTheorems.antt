@@ -1,13 +1,8 @@
 -- "Every refusal leaves session and out buffer unchanged and raises nothing; only 11 from an accept removes the request."
 use mathlib.Core.Path.{◌≡◌, refl}
 use mathlib.Core.Bool.{Bool, true, false}
-<<<<<<< HEAD
 use Rattle.text.specs.declared.ids.StreamId.{StreamId}
 use Rattle.std.specs.Prelude.{Option, Some, None}
-=======
-use Rattle.std.specs.Prelude.{Option, Some, None}
-use Rattle.text.specs.declared.ids.StreamId.{StreamId}
->>>>>>> 1ff859732af2797b16878119a047dca04918e730
 use Rattle.tables.specs.declared.requests.Request.{Request}
 use Rattle.tables.specs.declared.requests.RequestKind.{RequestKind}
 use Rattle.tables.specs.declared.requests.RequestKind.TheVariants.{Connect as ConnectKind, Publish as PublishKind, Play as PlayKind}
@@ -25,11 +20,7 @@ use Rattle.session.proofs.RefusalTheorems.{Fate, done, either, kept}
 use Rattle.decisions.specs.Answers.{accept_request, finish_playing, finished, granted, playing, publishing, reject_request, settled}
 
 pub rejected_fate : (q : Option Request) (short : Bool) → Fate (reject_request q short)
-<<<<<<< HEAD
 unfolding reject_request
-=======
-unfolding reject_request on_waiting
->>>>>>> 1ff859732af2797b16878119a047dca04918e730
 rejected_fate (Some r) short = either short _ _ (done refl) (kept TextTooLong refl)
 rejected_fate None short = kept NoSuchRequest refl
 
@@ -51,10 +42,6 @@ pub data AcceptFate (q : Option Request) (d : Decision) : Type 0 where
 
 module _ (r : Request) where
   settle : (found : Bool) (action : Action) (reply : Reply) (x : Stream) → AcceptFate (Some r) (settled found action r reply x)
-<<<<<<< HEAD
-=======
-  unfolding settled
->>>>>>> 1ff859732af2797b16878119a047dca04918e730
   settle true action reply x = fate (done refl)
   settle false action reply x = gone r refl action r.stream refl
 
@@ -64,10 +51,6 @@ module _ (r : Request) where
   grants PlayKind found = settle found Plays _ (playing r)
 
 pub accepted_fate : (q : Option Request) (found : Bool) → AcceptFate q (accept_request q found)
-<<<<<<< HEAD
 unfolding accept_request
-=======
-unfolding accept_request on_waiting
->>>>>>> 1ff859732af2797b16878119a047dca04918e730
 accepted_fate (Some r) found = grants r r.kind found
 accepted_fate None found = fate (kept NoSuchRequest refl)

@@ -15,11 +15,11 @@ use Rattle.tables.specs.declared.streams.StreamState.TheVariants.{Created, Publi
 use Rattle.wishes.specs.declared.outcome.Action.{Action}
 use Rattle.wishes.specs.declared.outcome.Action.TheVariants.{Publish as Publishes, Play as Plays}
 use Rattle.session.specs.State.{request_at, request_of, stream_at}
+use Rattle.session.specs.declared.decision.Decision.{Decision}
 use Rattle.session.specs.declared.decision.Reply.{Reply}
 use Rattle.session.specs.declared.session.Session.{Session}
 use Rattle.session.proofs.FitsLaws.{Fits, either, request_there}
 use Rattle.session.proofs.SoundTheorems.{Sound, request_short}
-<<<<<<< HEAD
 use Rattle.decisions.specs.Answers.{accepted, accept_request, finish_playing, finished, finished_on, granted, playing, publishing, reject_request, rejected, settled, stream_stands}
 
 module _ (s : Session) where
@@ -30,18 +30,6 @@ module _ (s : Session) where
 
   pub rejected_fits : (id : RequestId) (short : Bool) → Fits s (rejected s id short).change
   rejected_fits id short = rejects id (request_at s id) short refl
-=======
-use Rattle.decisions.specs.Answers.{accepted, accept_request, finish_playing, finished, finished_on, granted, on_waiting, playing, publishing, reject_request, rejected, settled, stream_there}
-
-module _ (s : Session) where
-  rejects : (id : RequestId) (short : Bool) (q : Option Request) → request_at s id ≡ q → Fits s (reject_request q short).change
-  unfolding reject_request on_waiting
-  rejects id short (Some r) h = either s short _ _ (request_there s id r h) tt
-  rejects id short None h = tt
-
-  pub rejected_fits : (id : RequestId) (short : Bool) → Fits s (rejected s id short).change
-  rejected_fits id short = rejects id short (request_at s id) refl
->>>>>>> 1ff859732af2797b16878119a047dca04918e730
 
   finishes : (x : StreamState) (id : StreamId) (e : Stream) → Fits s (finished x id e).change
   finishes Created id e = tt
@@ -49,7 +37,6 @@ module _ (s : Session) where
   finishes Playing id e = lit≤ tt
   finishes Completed id e = tt
 
-<<<<<<< HEAD
   ends : (q : Option Stream) (id : StreamId) → Fits s (finish_playing q id).change
   unfolding finish_playing
   ends (Some e) id = finishes e.state id e
@@ -57,15 +44,6 @@ module _ (s : Session) where
 
   pub finished_fits : (id : StreamId) → Fits s (finished_on s id).change
   finished_fits id = ends (stream_at s id) id
-=======
-  finish : (id : StreamId) (e : Option Stream) → Fits s (finish_playing e id).change
-  unfolding finish_playing
-  finish id (Some e) = finishes e.state id e
-  finish id None = tt
-
-  pub finished_fits : (id : StreamId) → Fits s (finished_on s id).change
-  finished_fits id = finish id (stream_at s id)
->>>>>>> 1ff859732af2797b16878119a047dca04918e730
 
   module _ (r : Request) (there : request_of s r.id.0 ≡ Some r) (short : r.name.len ≤ 128) where
     settle : (found : Bool) (action : Action) (reply : Reply) (x : Stream) → x.key.len ≤ 128 → Fits s (settled found action r reply x).change
@@ -77,7 +55,6 @@ module _ (s : Session) where
     grants PublishKind found = settle found Publishes _ (publishing r) short
     grants PlayKind found = settle found Plays _ (playing r) short
 
-<<<<<<< HEAD
   accepts : Sound s → (n : RequestId) (q : Option Request) (found : Bool) → request_at s n ≡ q → Fits s (accept_request q found).change
   unfolding accept_request
   accepts h n (Some r) found e = let f = request_there s n r e in grants r f (request_short s h r.id.0 r f) r.kind found
@@ -85,12 +62,3 @@ module _ (s : Session) where
 
   pub accepted_fits : Sound s → (id : RequestId) → Fits s (accepted s id).change
   accepted_fits h id = accepts h id (request_at s id) (stream_stands s (request_at s id)) refl
-=======
-  accepts : Sound s → (id : RequestId) (q : Option Request) → request_at s id ≡ q → (found : Bool) → Fits s (accept_request q found).change
-  unfolding accept_request on_waiting
-  accepts h id (Some r) e found = let there = request_there s id r e in grants r there (request_short s h r.id.0 r there) r.kind found
-  accepts h id None e found = tt
-
-  pub accepted_fits : Sound s → (id : RequestId) → Fits s (accepted s id).change
-  accepted_fits h id = accepts h id (request_at s id) refl (stream_there s (request_at s id))
->>>>>>> 1ff859732af2797b16878119a047dca04918e730

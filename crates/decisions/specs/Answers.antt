@@ -1,10 +1,5 @@
 -- The application's decisions: accept and reject a request, finish a play.
-<<<<<<< HEAD
 use Rattle.std.specs.Prelude.{Bool, false, Option, Some, None, is_some}
-=======
-use Rattle.std.specs.Prelude.{Bool, false, Option, Some, None}
-use Rattle.std.specs.Option.{is_some}
->>>>>>> 1ff859732af2797b16878119a047dca04918e730
 use Rattle.numbers.specs.Choose.{pick}
 use Rattle.text.specs.Names.{empty_name}
 use Rattle.text.specs.declared.ids.RequestId.{RequestId}
@@ -28,11 +23,7 @@ use Rattle.session.specs.declared.decision.Reply.TheVariants.{ConnectAccepted, P
 use Rattle.session.specs.declared.session.Session.{Session}
 
 -- 10: "no waiting request has this number"
-<<<<<<< HEAD
 abbrev pub on_waiting : Option Request → (Request → Decision) → Decision
-=======
-unfoldable pub on_waiting : Option Request → (Request → Decision) → Decision
->>>>>>> 1ff859732af2797b16878119a047dca04918e730
 on_waiting (Some r) f = f r
 on_waiting None f = refusing NoSuchRequest
 
@@ -81,7 +72,6 @@ finish_playing (Some e) id = finished e.state id e
 finish_playing None id = refusing (WrongStream Completes id)
 
 -- ---- the same of a session
-<<<<<<< HEAD
 -- whether the stream of a waiting request is there
 abbrev pub stream_stands : Session → Option Request → Bool
 stream_stands s (Some r) = is_some (stream_at s r.stream)
@@ -89,14 +79,6 @@ stream_stands s None = false
 
 abbrev pub accepted : Session → RequestId → Decision
 accepted s id = accept_request (request_at s id) (stream_stands s (request_at s id))
-=======
-abbrev pub stream_there : Session → Option Request → Bool
-stream_there s (Some r) = is_some (stream_at s r.stream)
-stream_there s None = false
-
-abbrev pub accepted : Session → RequestId → Decision
-accepted s id = accept_request (request_at s id) (stream_there s (request_at s id))
->>>>>>> 1ff859732af2797b16878119a047dca04918e730
 
 abbrev pub rejected : Session → RequestId → Bool → Decision
 rejected s id short = reject_request (request_at s id) short

@@ -1,13 +1,9 @@
 // The application's decisions: accept and reject a request, finish a play.
 ghost use Rattle.std.specs.Prelude.{◌≡◌};
-<<<<<<< HEAD
 ghost use Rattle.decisions.specs.Answers.{accept_request, completed, finish_playing, finished, granted, playing, publishing, reject_request, rejection, settled};
 ghost use Rattle.session.specs.Decisions.{refusing};
 ghost use Rattle.wishes.specs.declared.outcome.Action.TheVariants.{Complete as Completes};
 ghost use Rattle.wishes.specs.declared.outcome.Refusal.TheVariants.{WrongStream};
-=======
-ghost use Rattle.decisions.specs.Answers.{accept_request, completed, finish_playing, granted, playing, publishing, reject_request, rejection, settled};
->>>>>>> 1ff859732af2797b16878119a047dca04918e730
 
 use session::{
     Change, Decision, Effect, Reply, of_request, of_stream, refused, refused_with, replied,
@@ -17,7 +13,6 @@ use text::{PublishMode, StreamId, empty_name};
 use wishes::{Action, Refusal};
 
 // The request's stream becomes this one; where it is missing, the request is gone all the same.
-#[tactic(auto, unfolding(crate::specs::Answers::settled))]
 fn settle(found: bool, action: Action, request: Request, reply: Reply, stream: Stream) -> Decision
     ensures { result ≡ settled found action request reply stream }
 {
@@ -29,19 +24,11 @@ fn settle(found: bool, action: Action, request: Request, reply: Reply, stream: S
         };
         return replied(reply, request.name, change);
     }
-<<<<<<< HEAD
     let refusal = Refusal::WrongStream {
         action,
         stream: request.stream,
     };
     refused_with(refusal, of_request(Effect::RequestRemoved, request))
-=======
-    let outcome = Outcome::WrongStream {
-        action,
-        stream: request.stream,
-    };
-    refused_with(outcome, of_request(Effect::RequestRemoved, request))
->>>>>>> 1ff859732af2797b16878119a047dca04918e730
 }
 
 fn publishing_stream(request: Request) -> Stream
@@ -67,14 +54,10 @@ fn playing_stream(request: Request) -> Stream
 }
 
 // What an accepted request brings about.
-fn grant(request: Request, found: bool) -> Decision
-    ensures { result ≡ granted request.kind request found }
+fn grant(kind: RequestKind, request: Request, found: bool) -> Decision
+    ensures { result ≡ granted kind request found }
 {
-<<<<<<< HEAD
     match kind {
-=======
-    match request.kind {
->>>>>>> 1ff859732af2797b16878119a047dca04918e730
         RequestKind::Connect => replied(
             Reply::ConnectAccepted {
                 transaction: request.transaction,
@@ -100,33 +83,20 @@ fn grant(request: Request, found: bool) -> Decision
 }
 
 // `found`: whether the request's stream is there.
-<<<<<<< HEAD
 #[tactic(auto, unfolding(crate::specs::Answers::accept_request))]
-=======
-#[tactic(auto, unfolding(crate::specs::Answers::accept_request, crate::specs::Answers::on_waiting))]
->>>>>>> 1ff859732af2797b16878119a047dca04918e730
 pub fn accept(waiting: Option<Request>, found: bool) -> Decision
     ensures { result ≡ accept_request waiting found }
 {
     match waiting {
-<<<<<<< HEAD
         Some(request) => grant(request.kind, request, found),
         None => refused(Refusal::NoSuchRequest),
-=======
-        Some(request) => grant(request, found),
-        None => refused(Outcome::NoSuchRequest),
->>>>>>> 1ff859732af2797b16878119a047dca04918e730
     }
 }
 
-fn reject_reply(request: Request) -> Reply
-    ensures { result ≡ rejection request.kind request }
+fn reject_reply(kind: RequestKind, request: Request) -> Reply
+    ensures { result ≡ rejection kind request }
 {
-<<<<<<< HEAD
     match kind {
-=======
-    match request.kind {
->>>>>>> 1ff859732af2797b16878119a047dca04918e730
         RequestKind::Connect => Reply::Rejected {
             transaction: request.transaction,
             stream: StreamId(0),
@@ -139,7 +109,6 @@ fn reject_reply(request: Request) -> Reply
 }
 
 // `short`: neither the code nor the description is over 256 bytes.
-<<<<<<< HEAD
 #[tactic(auto, unfolding(crate::specs::Answers::reject_request))]
 pub fn reject(waiting: Option<Request>, short: bool) -> Decision
     ensures { result ≡ reject_request waiting short }
@@ -164,21 +133,6 @@ fn not_playing(id: StreamId) -> Decision
         action: Action::Complete,
         stream: id,
     })
-=======
-#[tactic(auto, unfolding(crate::specs::Answers::reject_request, crate::specs::Answers::on_waiting))]
-pub fn reject(waiting: Option<Request>, short: bool) -> Decision
-    ensures { result ≡ reject_request waiting short }
-{
-    match waiting {
-        Some(request) if short => replied(
-            reject_reply(request),
-            empty_name(),
-            of_request(Effect::RequestRemoved, request),
-        ),
-        Some(_) => refused(Outcome::TextTooLong),
-        None => refused(Outcome::NoSuchRequest),
-    }
->>>>>>> 1ff859732af2797b16878119a047dca04918e730
 }
 
 fn completed_stream(id: StreamId) -> Stream
@@ -192,27 +146,14 @@ fn completed_stream(id: StreamId) -> Stream
     }
 }
 
-#[tactic(auto, unfolding(crate::specs::Answers::finish_playing))]
-pub fn finish(seen: Option<Stream>, id: StreamId) -> Decision
-    ensures { result ≡ finish_playing seen id }
+fn complete(state: StreamState, id: StreamId, stream: Stream) -> Decision
+    ensures { result ≡ finished state id stream }
 {
-<<<<<<< HEAD
     match state {
         StreamState::Playing => {
-=======
-    match seen {
-        Some(
-            Stream {
-                state: StreamState::Playing,
-                key,
-                ..
-            },
-        ) => {
->>>>>>> 1ff859732af2797b16878119a047dca04918e730
             let change = of_stream(Effect::StreamSet, completed_stream(id));
             replied(Reply::PlayFinished(id), stream.key, change)
         }
-<<<<<<< HEAD
         _ => not_playing(id),
     }
 }
@@ -226,11 +167,3 @@ pub fn finish(seen: Option<Stream>, id: StreamId) -> Decision
         None => not_playing(id),
     }
 }
-=======
-        _ => refused(Outcome::WrongStream {
-            action: Action::Complete,
-            stream: id,
-        }),
-    }
-}
->>>>>>> 1ff859732af2797b16878119a047dca04918e730

@@ -1,10 +1,6 @@
 -- createStream, closeStream, deleteStream, metadata, audio and video.
-<<<<<<< HEAD
 use Rattle.std.specs.Prelude.{ℕ, Option, Some, None, Result, Ok, Err, eqb, leb}
 use Rattle.std.specs.Option.{option_and_then}
-=======
-use Rattle.std.specs.Prelude.{ℕ, Bool, Option, Some, None, eqb, leb}
->>>>>>> 1ff859732af2797b16878119a047dca04918e730
 use Rattle.numbers.specs.Choose.{pick}
 use Rattle.text.specs.Names.{empty_name}
 use Rattle.text.specs.declared.ids.StreamId.{StreamId}
@@ -45,7 +41,6 @@ create_stream d transaction =
     (replying (StreamCreated transaction (following_stream d)) empty_name (making (created (following_stream d)))))
 
 -- ---- what happens where a connected session has the stream, and nothing where not
-<<<<<<< HEAD
 abbrev pub known : Desk → Option Stream
 known d = pick d.connected d.seen None
 
@@ -55,14 +50,6 @@ on_known None f = nothing
 
 unfoldable pub on_stream : Desk → (Stream → Decision) → Decision
 on_stream d f = on_known (known d) f
-=======
-abbrev pub where_seen : Option Stream → (Stream → Decision) → Decision
-where_seen (Some e) f = f e
-where_seen None f = nothing
-
-unfoldable pub on_stream : Desk → (Stream → Decision) → Decision
-on_stream d f = pick d.connected (where_seen d.seen f) nothing
->>>>>>> 1ff859732af2797b16878119a047dca04918e730
 
 -- "Publishing or Playing raises PublishStreamFinished or PlayStreamFinished."
 abbrev pub ended : StreamState → Name → Name → Change → Decision
@@ -99,14 +86,5 @@ shown Completed event app key = None
 abbrev pub shown_found : Event → Name → Stream → Option Frame
 shown_found event app e = shown e.state event app e.key
 
-<<<<<<< HEAD
 unfoldable pub frame_of : Session → StreamId → Event → Option Frame
 frame_of s id event = pick (connected s) (option_and_then (shown_found event s.app) (stream_of s id.0)) None
-=======
-abbrev pub shown_found : Option Stream → Event → Name → Frame
-shown_found None event app = no_frame
-shown_found (Some e) event app = shown e.state event app e.key
-
-unfoldable pub frame_of : Session → StreamId → Event → Frame
-frame_of s id event = pick (connected s) (shown_found (stream_of s id.0) event s.app) no_frame
->>>>>>> 1ff859732af2797b16878119a047dca04918e730

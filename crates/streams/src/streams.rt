@@ -35,11 +35,7 @@ pub fn create_stream(desk: Desk, transaction: u64) -> Decision
     ensures { result ≡ create_stream desk transaction }
 {
     if desk.next_stream == u32::MAX {
-<<<<<<< HEAD
         return refused(Refusal::NumbersUsedUp);
-=======
-        return refused(Outcome::NumbersUsedUp);
->>>>>>> 1ff859732af2797b16878119a047dca04918e730
     }
     if 16 <= desk.stream_count {
         return refused(Refusal::StreamsFull);
@@ -66,7 +62,6 @@ fn known(desk: Desk) -> Option<Stream>
 fn end_stream(state: StreamState, app: Name, key: Name, change: Change) -> Decision
     ensures { result ≡ ended state app key change }
 {
-<<<<<<< HEAD
     match state {
         StreamState::Publishing => {
             raised(Event::PublishStreamFinished, app, key, no_metadata(), change)
@@ -74,56 +69,28 @@ fn end_stream(state: StreamState, app: Name, key: Name, change: Change) -> Decis
         StreamState::Playing => raised(Event::PlayStreamFinished, app, key, no_metadata(), change),
         StreamState::Created | StreamState::Completed => quiet(change),
     }
-=======
-    let event = match state {
-        StreamState::Created | StreamState::Completed => return quiet(change),
-        StreamState::Publishing => Event::PublishStreamFinished,
-        StreamState::Playing => Event::PlayStreamFinished,
-    };
-    raised(event, app, key, no_metadata(), change)
->>>>>>> 1ff859732af2797b16878119a047dca04918e730
 }
 
 #[tactic(auto, unfolding(crate::specs::Streams::on_stream))]
 pub fn close_stream(desk: Desk) -> Decision
     ensures { result ≡ close_stream desk }
 {
-<<<<<<< HEAD
     let Some(stream) = known(desk) else {
         return nothing_done();
     };
     let change = of_stream(Effect::StreamSet, created_stream(stream.id));
     end_stream(stream.state, desk.app, stream.key, change)
-=======
-    match desk.seen {
-        Some(stream) if desk.connected => {
-            let change = of_stream(Effect::StreamSet, created_stream(stream.id));
-            end_stream(stream.state, desk.app, stream.key, change)
-        }
-        _ => nothing_done(),
-    }
->>>>>>> 1ff859732af2797b16878119a047dca04918e730
 }
 
 #[tactic(auto, unfolding(crate::specs::Streams::on_stream))]
 pub fn delete_stream(desk: Desk) -> Decision
     ensures { result ≡ delete_stream desk }
 {
-<<<<<<< HEAD
     let Some(stream) = known(desk) else {
         return nothing_done();
     };
     let change = of_stream(Effect::StreamRemoved, stream);
     end_stream(stream.state, desk.app, stream.key, change)
-=======
-    match desk.seen {
-        Some(stream) if desk.connected => {
-            let change = of_stream(Effect::StreamRemoved, stream);
-            end_stream(stream.state, desk.app, stream.key, change)
-        }
-        _ => nothing_done(),
-    }
->>>>>>> 1ff859732af2797b16878119a047dca04918e730
 }
 
 // The metadata of a publishing stream; an encoder that is too long is refused only here.
@@ -135,25 +102,16 @@ fn describe(
 ) -> Decision
     ensures { result ≡ described state app key read }
 {
-<<<<<<< HEAD
     match (state, read) {
         (StreamState::Publishing, Ok(m)) => {
             raised(Event::StreamMetadataChanged, app, key, m, no_change())
         }
         (StreamState::Publishing, Err(_)) => refused(Refusal::NameTooLong),
-=======
-    match state {
-        StreamState::Publishing if fits => {
-            raised(Event::StreamMetadataChanged, app, key, m, no_change())
-        }
-        StreamState::Publishing => refused(Outcome::NameTooLong),
->>>>>>> 1ff859732af2797b16878119a047dca04918e730
         _ => nothing_done(),
     }
 }
 
 #[tactic(auto, unfolding(crate::specs::Streams::on_stream))]
-<<<<<<< HEAD
 pub fn change_metadata(desk: Desk, read: Result<StreamMetadata, LongEncoder>) -> Decision
     ensures { result ≡ change_metadata desk read }
 {
@@ -169,55 +127,17 @@ fn show_frame(state: StreamState, event: Event, app: Name, key: Name) -> Option<
     match state {
         StreamState::Publishing => Some(Frame { event, app, key }),
         _ => None,
-=======
-pub fn change_metadata(desk: Desk, fits: bool, m: StreamMetadata) -> Decision
-    ensures { result ≡ change_metadata desk fits m }
-{
-    match desk.seen {
-        Some(stream) if desk.connected => describe(stream.state, desk.app, stream.key, fits, m),
-        _ => nothing_done(),
-    }
-}
-
-fn no_frame() -> Frame
-    ensures { result ≡ no_frame }
-{
-    Frame {
-        event: Event::NoEvent,
-        app: empty_name(),
-        key: empty_name(),
-    }
-}
-
-fn show_frame(state: StreamState, event: Event, app: Name, key: Name) -> Frame
-    ensures { result ≡ shown state event app key }
-{
-    match state {
-        StreamState::Publishing => Frame { event, app, key },
-        _ => no_frame(),
->>>>>>> 1ff859732af2797b16878119a047dca04918e730
     }
 }
 
 // The event under the key of a publishing stream. The session goes in by value and does not come back: no copy is made.
 #[tactic(auto, unfolding(crate::specs::Streams::frame_of))]
-<<<<<<< HEAD
 pub fn frame_of(session: Session, id: StreamId, event: Event) -> Option<Frame>
-=======
-pub fn frame_of(session: Session, id: StreamId, event: Event) -> Frame
->>>>>>> 1ff859732af2797b16878119a047dca04918e730
     ensures { result ≡ frame_of session id event }
 {
     if !is_connected(session) {
         return None;
     }
-<<<<<<< HEAD
     let stream = find(&session.streams, session.stream_count, id)?;
     show_frame(stream.state, event, session.app, stream.key)
-=======
-    match find(&session.streams, session.stream_count, id) {
-        Some(stream) => show_frame(stream.state, event, session.app, stream.key),
-        None => no_frame(),
-    }
->>>>>>> 1ff859732af2797b16878119a047dca04918e730
 }
