@@ -19,7 +19,7 @@ use Rattle.session.specs.declared.decision.Reply.{Reply}
 use Rattle.session.specs.declared.session.Session.{Session}
 use Rattle.session.proofs.FitsLaws.{Fits, either, request_there}
 use Rattle.session.proofs.SoundTheorems.{Sound, request_short}
-use Rattle.decisions.specs.Answers.{accepted, accept_request, finish_playing, finished, finished_on, granted, on_waiting, playing, publishing, reject_request, rejected, settled, stream_there}
+use Rattle.decisions.specs.Answers.{accepted, accept_request, finish_playing, finished, finished_on, granted, on_waiting, playing, publishing, reject_request, rejected, settled, has_stream}
 
 module _ (s : Session) where
   rejects : (id : RequestId) (short : Bool) (q : Option Request) → request_at s id ≡ q → Fits s (reject_request q short).change
@@ -61,4 +61,4 @@ module _ (s : Session) where
   accepts h id None e found = tt
 
   pub accepted_fits : Sound s → (id : RequestId) → Fits s (accepted s id).change
-  accepted_fits h id = accepts h id (request_at s id) refl (stream_there s (request_at s id))
+  accepted_fits h id = accepts h id (request_at s id) refl (has_stream s (request_at s id))

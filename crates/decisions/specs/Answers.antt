@@ -73,12 +73,13 @@ finish_playing (Some e) id = finished e.state id e
 finish_playing None id = refusing (WrongStream Completes id)
 
 -- ---- the same of a session
-abbrev pub stream_there : Session → Option Request → Bool
-stream_there s (Some r) = is_some (stream_at s r.stream)
-stream_there s None = false
+-- whether a waiting request's stream is there
+abbrev pub has_stream : Session → Option Request → Bool
+has_stream s (Some r) = is_some (stream_at s r.stream)
+has_stream s None = false
 
 abbrev pub accepted : Session → RequestId → Decision
-accepted s id = accept_request (request_at s id) (stream_there s (request_at s id))
+accepted s id = accept_request (request_at s id) (has_stream s (request_at s id))
 
 abbrev pub rejected : Session → RequestId → Bool → Decision
 rejected s id short = reject_request (request_at s id) short
