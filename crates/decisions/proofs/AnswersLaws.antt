@@ -15,7 +15,7 @@ use Rattle.session.specs.Changes.{dropping, granting}
 use Rattle.session.specs.Decisions.{refusing, refusing_with, replying}
 use Rattle.session.specs.declared.decision.Decision.{Decision}
 use Rattle.session.specs.declared.decision.Reply.{Reply}
-use Rattle.decisions.specs.Answers.{accept_request, finish_playing, finished, granted, on_waiting, reject_request, rejection, settled}
+use Rattle.decisions.specs.Answers.{accept_request, finish_playing, finished, granted, reject_request, rejection, settled}
 
 module _ (found : Bool) (action : Action) (r : Request) (reply : Reply) (e : Stream) (d : Decision) where
   pub settle_there : d ≡ replying reply r.name (granting r e) → found ≡ true → d ≡ settled found action r reply e
