@@ -24,7 +24,7 @@ use Rattle.wishes.specs.declared.outcome.Refusal.{Refusal}
 use Rattle.wishes.specs.declared.outcome.Refusal.TheVariants.{BadConfig, BadSession, NoRoom, WrongStream}
 use Rattle.session.specs.Changes.{applied, dropping}
 use Rattle.session.specs.Decisions.{refusing, refusing_with}
-use Rattle.session.specs.State.{fresh_session, request_at, session_sound, stream_at, without_request}
+use Rattle.session.specs.State.{request_at, session_sound, stream_at, without_request}
 use Rattle.session.specs.declared.changes.Change.{Change}
 use Rattle.session.specs.declared.decision.Decision.{Decision}
 use Rattle.session.specs.declared.decision.Event.TheVariants.{AudioDataReceived, VideoDataReceived}
@@ -38,7 +38,7 @@ use Rattle.steps.proofs.RefusalTheorems.{decided_fate}
 use Rattle.decisions.specs.Answers.{accepted, finished_on, rejected, stream_stands}
 use Rattle.decisions.proofs.RefusalTheorems.{AcceptFate, accepted_fate, fate, finished_fate, gone, rejected_fate}
 use Rattle.replies.proofs.RepliesLaws.{nothing_sent}
-use Rattle.replies.specs.Answers.{answered, closed, idle, refusal}
+use Rattle.replies.specs.Answers.{answered, closed, refusal}
 use Rattle.replies.specs.Finishing.{finishing}
 use Rattle.replies.specs.Replies.{reply_records, short}
 use Rattle.replies.specs.declared.answer.Answer.{Answer}

@@ -19,11 +19,11 @@ use Rattle.wishes.specs.Control.{control_wish}
 use Rattle.wishes.specs.DataFrame.{data_wish}
 use Rattle.std.specs.Prelude.{Option, Some, None, Result}
 use Rattle.wishes.specs.declared.outcome.Refusal.{Refusal}
-use Rattle.wishes.specs.declared.outcome.Refusal.TheVariants.{BadSession, NoRoom}
+use Rattle.wishes.specs.declared.outcome.Refusal.TheVariants.{BadSession}
 use Rattle.wishes.specs.declared.wish.Wish.{Wish}
 use Rattle.wishes.proofs.NameTheorems.{ShortRead, command_short, control_short, data_short}
 use Rattle.session.specs.Changes.{applied}
-use Rattle.session.specs.State.{fresh_session, session_sound}
+use Rattle.session.specs.State.{session_sound}
 use Rattle.session.specs.declared.decision.Decision.{Decision}
 use Rattle.session.specs.declared.session.Session.{Session}
 use Rattle.session.proofs.FitsLaws.{Fits}
