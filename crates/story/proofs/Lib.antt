@@ -13,6 +13,5 @@ pub mod NumberTheorems
 pub mod MachineLaws
 pub mod SimulationLaws
 pub mod OrderTheorems
-pub mod WitnessTheorems
 pub mod CreationTheorems
 pub mod CodeTheorems
