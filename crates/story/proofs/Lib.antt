@@ -13,5 +13,6 @@ pub mod NumberTheorems
 pub mod MachineLaws
 pub mod SimulationLaws
 pub mod OrderTheorems
+pub mod WitnessTheorems
 pub mod CreationTheorems
 pub mod CodeTheorems
