@@ -34,11 +34,10 @@ use Rattle.wishes.specs.declared.wish.Wish.{Wish}
 use Rattle.wishes.specs.declared.wish.Wish.TheVariants.{Nothing, CreateStream, CloseStream, DeleteStream, Metadata, PingRequest, PingResponse}
 use Rattle.wishes.specs.declared.wish.Wish.TheVariants.{Connect as ConnectWish, Publish as PublishWish, Play as PlayWish}
 use Rattle.session.specs.Changes.{dropping, filing_connect, filing_of, granting, joining, making, no_change, removing, setting}
-use Rattle.session.specs.Decisions.{nothing, raising, refusing, refusing_with, replying}
+use Rattle.session.specs.Decisions.{nothing, raising, refusing_with, replying}
 use Rattle.session.specs.Desk.{desk_of}
 use Rattle.session.specs.State.{connected, request_of, stream_at, stream_of}
 use Rattle.session.specs.declared.changes.Change.{Change}
-use Rattle.session.specs.declared.decision.CommandFault.{CommandFault}
 use Rattle.session.specs.declared.decision.Decision.{Decision}
 use Rattle.session.specs.declared.decision.Event.{Event}
 use Rattle.session.specs.declared.decision.Reply.{Reply}
@@ -47,7 +46,7 @@ use Rattle.session.specs.declared.session.Session.{Session}
 use Rattle.streams.specs.Streams.{create_stream, created, described, ended, frame_of, on_known, on_stream, shown, shown_found}
 use Rattle.streams.specs.declared.streams.Frame.{Frame}
 use Rattle.steps.specs.Commands.{asked, on_asked, on_room, play, publish, request_room}
-use Rattle.steps.specs.Deciding.{decide, decided, subject_of}
+use Rattle.steps.specs.Deciding.{decide, decided}
 use Rattle.decisions.specs.Answers.{accept_request, accepted, completed, finish_playing, finished, finished_on, granted, playing, publishing, reject_request, rejected, settled, stream_stands}
 use Rattle.story.specs.Doings.{Doing, Wants, Shows, Rests, Accepts, Rejects, Finishes, Sends}
 use Rattle.story.specs.Runs.{Told}

@@ -1,6 +1,6 @@
 -- Every step of a good session leaves a good one.
 use mathlib.Core.Path.{◌≡◌, ap, ◌∙◌}
-use Prim.Native.Nat.{ℕ, ◌-◌}
+use Prim.Native.Nat.{ℕ}
 use mathlib.Core.Bool.{true}
 use lib.ListN.{length}
 use Rattle.std.specs.Prelude.{Some}

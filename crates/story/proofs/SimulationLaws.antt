@@ -2,7 +2,7 @@
 use mathlib.Core.Path.{◌≡◌, refl, sym, ap, ap₂, ◌∙◌}
 use Prim.Native.Nat.{ℕ, ◌+◌, ◌≤◌, ◌<◌}
 use native.Mathlib.Omega.{arith}
-use mathlib.Core.Bool.{Bool, true, false}
+use mathlib.Core.Bool.{true, false}
 use mathlib.Core.List.{List, [], ◌∷◌}
 use borrow.Author.Tests.{eq-eqb, ne_eqb}
 use Rattle.std.specs.Prelude.{Option, Some, None, Result, Ok, Err, is_some}
@@ -31,9 +31,9 @@ use Rattle.session.specs.declared.decision.Decision.{Decision}
 use Rattle.session.specs.declared.decision.Event.{Event}
 use Rattle.session.specs.declared.desk.Desk.{Desk}
 use Rattle.session.specs.declared.session.Session.{Session}
-use Rattle.streams.specs.Streams.{frame_of, shown_found}
+use Rattle.streams.specs.Streams.{frame_of}
 use Rattle.streams.specs.declared.streams.Frame.{Frame}
-use Rattle.steps.specs.Deciding.{decide, decided, subject_of}
+use Rattle.steps.specs.Deciding.{decided, subject_of}
 use Rattle.sending.specs.declared.sends.PingSent.{PingSent}
 use Rattle.replies.specs.Replies.{short}
 use Rattle.story.specs.Steps.{Call, Response, accept, finish, media, message, pinged_as, reject, send_audio, send_metadata, send_ping, send_video, sent_as, step}

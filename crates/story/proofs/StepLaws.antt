@@ -18,7 +18,7 @@ use Rattle.answers.specs.Sending.{sent}
 use Rattle.wishes.specs.Commands.{command_wish}
 use Rattle.wishes.specs.Control.{control_wish}
 use Rattle.wishes.specs.DataFrame.{data_wish}
-use Rattle.wishes.specs.Outcome.{Outcome, number_of}
+use Rattle.wishes.specs.Outcome.{number_of}
 use Rattle.wishes.specs.declared.outcome.Refusal.{Refusal}
 use Rattle.wishes.specs.declared.outcome.Refusal.TheVariants.{NoRoom}
 use Rattle.wishes.specs.declared.wish.Wish.{Wish}

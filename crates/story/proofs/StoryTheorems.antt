@@ -2,10 +2,8 @@
 use mathlib.Core.Path.{◌≡◌, refl, sym, ap, ap₂, ◌∙◌}
 use mathlib.Core.Logic.{◌↔◌}
 use Prim.Native.Nat.{ℕ}
-use native.Mathlib.Omega.{arith}
 use mathlib.Core.Bool.{Bool, true, false}
 use mathlib.Core.List.{List}
-use lib.Dec.{eqb}
 use Rattle.std.specs.Option.{option_and_then}
 use Rattle.std.specs.Prelude.{Option, Some, None, Ok}
 use Rattle.numbers.specs.Choose.{pick}
@@ -13,9 +11,6 @@ use Rattle.text.specs.declared.ids.StreamId.{StreamId}
 use Rattle.text.specs.declared.names.Name.{Name}
 use Rattle.tables.specs.declared.streams.Stream.{Stream}
 use Rattle.tables.specs.declared.streams.StreamState.{StreamState}
-use Rattle.wishes.specs.Commands.{command_wish}
-use Rattle.wishes.specs.Control.{control_wish}
-use Rattle.wishes.specs.DataFrame.{data_wish}
 use Rattle.session.specs.State.{connected, stream_of}
 use Rattle.session.specs.declared.decision.Event.{Event}
 use Rattle.session.specs.declared.decision.Event.TheVariants.{AudioDataReceived, VideoDataReceived}
@@ -23,9 +18,8 @@ use Rattle.session.specs.declared.session.Session.{Session}
 use Rattle.streams.specs.Streams.{frame_of, shown, shown_found}
 use Rattle.messages.specs.Messages.{media_event}
 use Rattle.messages.specs.declared.messages.MediaKind.{MediaKind}
-use Rattle.messages.specs.declared.messages.MediaKind.TheVariants.{Audio, Video}
-use Rattle.story.specs.Steps.{Call, accept, finish, media, message, reject, send_audio, send_metadata, send_ping, send_video, step}
-use Rattle.story.specs.Doings.{Wants, Shows, Rests, doing, message_doing}
+use Rattle.story.specs.Steps.{Call, media, message, step}
+use Rattle.story.specs.Doings.{Shows, doing, message_doing}
 use Rattle.story.specs.Runs.{Start, after, told}
 use Rattle.story.specs.History.{Last, Never, Creation, Closing, Deletion, PublishAccepted, PlayAccepted, Finishing, joined, last_effective}
 use Rattle.story.specs.Stories.{Raised, frame_in, nothing_raised, story_frame}
