@@ -32,14 +32,8 @@ frame_in r = record { event = r.event; app = r.app; key = r.key }
 
 -- what audio or video on a stream raises, by the app joined and the last effective step on the stream
 abbrev pub story_frame : Option Name → Last → Event → Raised
-story_frame None last e = nothing_raised
-story_frame (Some app) Never e = nothing_raised
-story_frame (Some app) Creation e = nothing_raised
-story_frame (Some app) Closing e = nothing_raised
-story_frame (Some app) Deletion e = nothing_raised
 story_frame (Some app) (PublishAccepted key) e = record { event = Some e; app = app; key = key }
-story_frame (Some app) (PlayAccepted key) e = nothing_raised
-story_frame (Some app) Finishing e = nothing_raised
+story_frame joined last e = nothing_raised
 
 -- a request of the session's table as the history tells it
 abbrev pub as_filed : Request → Filed
@@ -52,26 +46,13 @@ asked (Some r) = Some (as_filed r)
 -- ---- "frames filed under a closed key"
 -- a closeStream or a deleteStream of x
 abbrev pub ends_want : ℕ → Result Wish Refusal → Bool
-ends_want x (Ok Nothing) = false
-ends_want x (Err o) = false
-ends_want x (Ok (ConnectWish transaction encoding app)) = false
-ends_want x (Ok (CreateStream transaction)) = false
 ends_want x (Ok (CloseStream y)) = eqb y.0 x
 ends_want x (Ok (DeleteStream y)) = eqb y.0 x
-ends_want x (Ok (PublishWish transaction arguments)) = false
-ends_want x (Ok (PlayWish transaction arguments)) = false
-ends_want x (Ok (Metadata read)) = false
-ends_want x (Ok (PingRequest v)) = false
-ends_want x (Ok (PingResponse v)) = false
+ends_want x other = false
 
 abbrev pub ends : ℕ → Doing → Bool
 ends x (Wants y w) = ends_want x w
-ends x (Shows y e) = false
-ends x Rests = false
-ends x (Accepts n) = false
-ends x (Rejects n short) = false
-ends x (Finishes y) = false
-ends x (Sends y) = false
+ends x other = false
 
 -- an accept, answered 0, of a publish request on x
 abbrev pub is_publish : RequestKind → Bool
@@ -84,13 +65,8 @@ publish_on x None = false
 publish_on x (Some f) = pick (eqb f.stream x) (is_publish f.kind) false
 
 abbrev pub accepts_publish : ℕ → Doing → Outcome → List Told → Bool
-accepts_publish x (Wants y w) o h = false
-accepts_publish x (Shows y e) o h = false
-accepts_publish x Rests o h = false
 accepts_publish x (Accepts n) o h = pick (done o) (publish_on x (filed n.0 h)) false
-accepts_publish x (Rejects n short) o h = false
-accepts_publish x (Finishes y) o h = false
-accepts_publish x (Sends y) o h = false
+accepts_publish x other o h = false
 
 -- none of the newer steps does so
 abbrev pub NoneAccepts : Start → ℕ → List Call → List Call → Type 0
