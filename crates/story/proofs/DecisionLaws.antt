@@ -79,26 +79,17 @@ Not15 o = eqb (number_of o) 15 ≡ false
 
 -- ---- nothing changed: what is known then
 abbrev pub StillWant : Session → Result Wish Refusal → Outcome → Type 0
-StillWant s (Ok Nothing) o = Unit {0}
-StillWant s (Err p) o = Unit {0}
-StillWant s (Ok (ConnectWish transaction encoding app)) o = Unit {0}
 StillWant s (Ok (CreateStream transaction)) o = (done o ≡ false) × (for_room (number_of o) ≡ true)
 StillWant s (Ok (CloseStream y)) o = done o ≡ true → connected s ≡ true → stream_of s y.0 ≡ None
 StillWant s (Ok (DeleteStream y)) o = done o ≡ true → connected s ≡ true → stream_of s y.0 ≡ None
-StillWant s (Ok (PublishWish transaction arguments)) o = Unit {0}
-StillWant s (Ok (PlayWish transaction arguments)) o = Unit {0}
-StillWant s (Ok (Metadata read)) o = Unit {0}
-StillWant s (Ok (PingRequest v)) o = Unit {0}
-StillWant s (Ok (PingResponse v)) o = Unit {0}
+StillWant s other o = Unit {0}
 
 abbrev pub Still : Session → Doing → Decision → Type 0
 Still s (Wants x w) d = StillWant s w d.outcome
-Still s (Shows x e) d = Unit {0}
-Still s Rests d = Unit {0}
 Still s (Accepts n) d = (done d.outcome ≡ false) × (eqb (number_of d.outcome) 11 ≡ false)
 Still s (Rejects n short) d = done d.outcome ≡ false
 Still s (Finishes x) d = done d.outcome ≡ false
-Still s (Sends x) d = Unit {0}
+Still s other d = Unit {0}
 
 -- ---- a request was filed: its number is the next one, and there was room
 pub record Next (s : Session) (r : Request) : Type 0 where
@@ -207,16 +198,13 @@ module _ (s : Session) (y : StreamId) (w : Result Wish Refusal) where
   end Completed app key c = record { outcome = refl; files = refl; change = refl }
 
   describe : (st : StreamState) (app key : Name) (read : Result StreamMetadata LongEncoder) → w ≡ Ok (Metadata read) → Does (described st app key read)
-  describe Created app key read q = quiet _ refl refl refl (rw q tt)
   describe Publishing app key (Ok m) q = quiet _ refl refl refl (rw q tt)
   describe Publishing app key (Err e) q = quiet _ refl refl refl (rw q tt)
-  describe Playing app key read q = quiet _ refl refl refl (rw q tt)
-  describe Completed app key read q = quiet _ refl refl refl (rw q tt)
+  describe other app key read q = quiet _ refl refl refl (rw q tt)
 
   -- ---- every want
   wants : (v : Result Wish Refusal) → w ≡ v → Readable v → Does (decided s y v)
   unfolding decided decide desk_of
-  wants (Ok Nothing) q k = quiet _ refl refl refl (rw q tt)
   wants (Ok (ConnectWish t encoding app)) q k =
       file y app _ (λ o. rw q tt)
       (λ n e h j. connects refl (record { makes_none = rw q; effectless = λ z h old. rw q }) (record { number = refl; more = h; place = j }) (q, refl))
@@ -228,9 +216,8 @@ module _ (s : Session) (y : StreamId) (w : Result Wish Refusal) where
   wants (Ok (PublishWish t a)) q k = publishes t a q y
   wants (Ok (PlayWish t a)) q k = plays t a q y
   wants (Ok (Metadata read)) q k = on_stream_lem y _ Does (λ n. quiet _ refl refl refl (rw q tt)) (λ e c f. describe e.state _ _ read q)
-  wants (Ok (PingRequest v)) q k = quiet _ refl refl refl (rw q tt)
-  wants (Ok (PingResponse v)) q k = quiet _ refl refl refl (rw q tt)
   wants (Err r) q k = quiet _ refl k refl (rw q tt)
+  wants other q k = quiet _ refl refl refl (rw q tt)
 
 -- ---- the application's decisions
 module _ (s : Session) where
@@ -256,10 +243,8 @@ module _ (s : Session) where
   reject n false (Some r) e = still _ _ refl refl refl refl
 
   end_play : (x : StreamId) (e : Stream) → stream_of s x.0 ≡ Some e → (st : StreamState) → Did s (Finishes x) (finished st x e)
-  end_play x e f Created = still _ _ refl refl refl refl
-  end_play x e f Publishing = still _ _ refl refl refl refl
   end_play x e f Playing = completes f
-  end_play x e f Completed = still _ _ refl refl refl refl
+  end_play x e f other = still _ _ refl refl refl refl
 
   finish : (x : StreamId) (o : Option Stream) → stream_of s x.0 ≡ o → Did s (Finishes x) (finish_playing o x)
   unfolding finish_playing
@@ -270,11 +255,7 @@ module _ (s : Session) where
   abbrev pub ReadableIn : Doing → Type 0
   ReadableIn (Wants x w) = Readable w
   ReadableIn (Shows x e) = request_in (Some e) ≡ None
-  ReadableIn Rests = Unit {0}
-  ReadableIn (Accepts n) = Unit {0}
-  ReadableIn (Rejects n short) = Unit {0}
-  ReadableIn (Finishes x) = Unit {0}
-  ReadableIn (Sends x) = Unit {0}
+  ReadableIn other = Unit {0}
 
   module _ (x : StreamId) (e : Event) (k : request_in (Some e) ≡ None) where
     abbrev Frames : Option Frame → Type 0
@@ -284,10 +265,8 @@ module _ (s : Session) where
     no_frame = still _ _ refl refl refl tt
 
     state_shows : (st : StreamState) (app key : Name) → Frames (shown st e app key)
-    state_shows Created app key = no_frame
     state_shows Publishing app key = still _ _ refl refl k tt
-    state_shows Playing app key = no_frame
-    state_shows Completed app key = no_frame
+    state_shows other app key = no_frame
 
     found_shows : (o : Option Stream) (app : Name) → Frames (option_and_then (shown_found e app) o)
     found_shows None app = no_frame

@@ -47,14 +47,10 @@ took_places (took d n t out k) h = places_kept k h
 step_sound : (s : Session) → Good s → (c : Call) → session_sound (step s c).1 ≡ true
 unfolding step
 step_sound s h (message type x timestamp clock body out) = message_sound s h.sound h.stream_places h.request_places type x timestamp clock body out
-step_sound s h (media kind x timestamp) = h.sound
 step_sound s h (accept n clock out) = accept_sound s h.sound h.stream_places h.request_places n clock out
 step_sound s h (reject n code description clock out) = reject_sound s h.sound h.stream_places h.request_places n code description clock out
 step_sound s h (finish x clock out) = finish_sound s h.sound h.stream_places h.request_places x clock out
-step_sound s h (send_metadata x m clock out) = h.sound
-step_sound s h (send_audio x timestamp droppable body out) = h.sound
-step_sound s h (send_video x timestamp droppable body out) = h.sound
-step_sound s h (send_ping clock out) = h.sound
+step_sound s h other = h.sound
 
 pub step_good : (s : Session) → Good s → (c : Call) → Good (step s c).1
 step_good s h c = let p = took_places (step_took s h.sound c) h in record { sound = step_sound s h c; stream_places = p.0; request_places = p.1 }

@@ -73,16 +73,11 @@ module _ (s : Session) (h : List Told) (v : Follows s h) where
 
   did_undecided : {k : Doing} {d : Decision} → Did s k d → (m : ℕ) → decides k d.outcome ≡ Some m → decided m h ≡ false
   did_undecided (still k d c n f i) m e = absurd (not_none _ _ e (still_decides s d k i))
-  did_undecided (made q p k) m e = absurd (not_none _ _ e refl)
-  did_undecided (files f i k a) m e = absurd (not_none _ _ e refl)
-  did_undecided (connects f i k a) m e = absurd (not_none _ _ e refl)
-  did_undecided (closed q c f k) m e = absurd (not_none _ _ e refl)
-  did_undecided (deleted q c f k) m e = absurd (not_none _ _ e refl)
-  did_undecided (completes f) m e = absurd (not_none _ _ e refl)
   did_undecided (joined {n = n} {r = r} f k) m e = found_undecided n r f m e
   did_undecided (grants {n = n} {r = r} f k o) m e = found_undecided n r f m e
   did_undecided (missed {n = n} {r = r} f k o) m e = found_undecided n r f m e
   did_undecided (rejects {n = n} {r = r} f) m e = found_undecided n r f m e
+  did_undecided other m e = absurd (not_none _ _ e refl)
 
 took_undecided : {s : Session} {k : Doing} {a : Response} {t : Session} → Took s k a t → (h : List Told) → Follows s h → (m : ℕ) → decides k a.outcome ≡ Some m → decided m h ≡ false
 took_undecided {s} (took d n t out k) h v = did_undecided s h v k
@@ -105,16 +100,9 @@ decided_once b (c ∷ cs) n =
 -- ---- 15
 never_15 : {s : Session} {g : Doing} {d : Decision} → Did s g d → Not15 d.outcome
 never_15 (still g d c n f k) = n
-never_15 (made q m k) = refl
-never_15 (files f i k a) = refl
-never_15 (connects f i k a) = refl
 never_15 (closed q c f k) = rw k.outcome
 never_15 (deleted q c f k) = rw k.outcome
-never_15 (completes f) = refl
-never_15 (joined f k) = refl
-never_15 (grants f k o) = refl
-never_15 (missed f k o) = refl
-never_15 (rejects f) = refl
+never_15 other = refl
 
 took_not_15 : {s : Session} {g : Doing} {a : Response} {t : Session} → Took s g a t → Not15 a.outcome
 took_not_15 (took d n t out k) = never_15 k

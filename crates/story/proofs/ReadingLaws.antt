@@ -61,12 +61,7 @@ connects s t = other_wise (is_object (value_of s 2)) _ _ refl (given (text_in s 
 
 known : (s : List ℕ) (t : ℕ) (c : Command) → Readable (known_command s t c)
 known s t Connect = connects s t
-known s t CreateStream = tt
-known s t CloseStream = tt
-known s t DeleteStream = tt
-known s t Publish = tt
-known s t Play = tt
-known s t Other = tt
+known s t rest = tt
 
 begun : (s : List ℕ) → Readable (whole_command s)
 begun s =

@@ -127,26 +127,13 @@ play_owner x (Ok a) q h = ap stream_in h
 play_owner x (Err f) q h = absurd (not_none _ _ h refl)
 
 want_owner : (next : ℕ) (x : StreamId) (v : Result Wish Refusal) (q : Request) → want_ask x v ≡ Some q → owner_of_want next x v ≡ Some q.stream.0
-want_owner next x (Ok Nothing) q h = absurd (not_none _ _ h refl)
-want_owner next x (Ok (ConnectWish t e app)) q h = absurd (not_none _ _ h refl)
-want_owner next x (Ok (CreateStream t)) q h = absurd (not_none _ _ h refl)
-want_owner next x (Ok (CloseStream y)) q h = absurd (not_none _ _ h refl)
-want_owner next x (Ok (DeleteStream y)) q h = absurd (not_none _ _ h refl)
 want_owner next x (Ok (PublishWish t a)) q h = publish_owner x a q h
 want_owner next x (Ok (PlayWish t a)) q h = play_owner x a q h
-want_owner next x (Ok (Metadata read)) q h = absurd (not_none _ _ h refl)
-want_owner next x (Ok (PingRequest v)) q h = absurd (not_none _ _ h refl)
-want_owner next x (Ok (PingResponse v)) q h = absurd (not_none _ _ h refl)
-want_owner next x (Err r) q h = absurd (not_none _ _ h refl)
+want_owner next x other q h = absurd (not_none _ _ h refl)
 
 doing_owner : (next : ℕ) (g : Doing) (q : Request) → doing_ask g ≡ Some q → owner_of next g ≡ Some q.stream.0
 doing_owner next (Wants x w) q h = want_owner next x w q h
-doing_owner next (Shows x e) q h = absurd (not_none _ _ h refl)
-doing_owner next Rests q h = absurd (not_none _ _ h refl)
-doing_owner next (Accepts n) q h = absurd (not_none _ _ h refl)
-doing_owner next (Rejects n b) q h = absurd (not_none _ _ h refl)
-doing_owner next (Finishes x) q h = absurd (not_none _ _ h refl)
-doing_owner next (Sends x) q h = absurd (not_none _ _ h refl)
+doing_owner next other q h = absurd (not_none _ _ h refl)
 
 asks_owner : (s : Session) (older : List (Tagged Act)) (act : Act) (q : Request) → act_ask (Some act) ≡ Some q → owner s older act ≡ Some q.stream.0
 asks_owner s older (Plain c) q h = doing_owner _ (doing c) q h
@@ -184,16 +171,11 @@ own_desk z app o = desk_for app (seat o) (stands_at z o)
 
 meets : (z : Session) (v : Wish) (y : StreamId) → Meets (desk_of z (subject_of v y)) (seat (owner_of_want z.next_stream y (Ok v))) (stands_at z (owner_of_want z.next_stream y (Ok v))) (Ok v)
 unfolding desk_of
-meets z Nothing y = tt
-meets z (ConnectWish t e app) y = tt
 meets z (CreateStream t) y = refl
 meets z (CloseStream u) y = refl
 meets z (DeleteStream u) y = refl
-meets z (PublishWish t a) y = tt
-meets z (PlayWish t a) y = tt
 meets z (Metadata read) y = refl
-meets z (PingRequest v) y = tt
-meets z (PingResponse v) y = tt
+meets z other y = tt
 
 module _ (z : Session) (app : Name) (on : connected z ≡ true) (here : z.app ≡ app) where
   frame_alike : (y : StreamId) (e : Event) → frame_of z y e ≡ frame_seen (own_desk z app (Some y.0)) e
@@ -203,31 +185,21 @@ module _ (z : Session) (app : Name) (on : connected z ≡ true) (here : z.app �
   plain_alike : (g : Doing) → Connectless g → for_room (number_of (decision_at z g).outcome) ≡ false → bare (decision_at z g) ≡ bare (desk_decision (own_desk z app (owner_of z.next_stream g)) g)
   unfolding decided desk_of
   plain_alike (Wants y (Ok w)) n h = want_alike (desk_of z (subject_of w y)) app _ _ on here (Ok w) n (meets z w y) y h
-  plain_alike (Wants y (Err r)) n h = refl
   plain_alike (Shows y e) n h = ap (λ (f : Option Frame). bare (shown_as f)) (frame_alike y e)
-  plain_alike Rests n h = refl
   plain_alike (Accepts m) n h = absurd n
   plain_alike (Rejects m b) n h = absurd n
-  plain_alike (Finishes y) n h = refl
-  plain_alike (Sends y) n h = refl
+  plain_alike other n h = refl
 
 plain_calm : (z : Session) (h : Good z) (g : Doing) → Connectless g → Calm z h g
 plain_calm z h (Wants x w) n = n
-plain_calm z h (Shows x e) n = tt
-plain_calm z h Rests n = tt
 plain_calm z h (Accepts m) n = absurd n
 plain_calm z h (Rejects m b) n = absurd n
-plain_calm z h (Finishes x) n = tt
-plain_calm z h (Sends x) n = tt
+plain_calm z h other n = tt
 
 plain_owner : (z : Session) (g : Doing) → Connectless g → owner_in z g ≡ owner_of z.next_stream g
-plain_owner z (Wants x w) n = refl
-plain_owner z (Shows x e) n = refl
-plain_owner z Rests n = refl
 plain_owner z (Accepts m) n = absurd n
 plain_owner z (Rejects m b) n = absurd n
-plain_owner z (Finishes x) n = refl
-plain_owner z (Sends x) n = refl
+plain_owner z other n = refl
 
 -- ---- a decision that is not answered 10 found a request
 accept_found : (z : Session) → Good z → (n : RequestId) (clock : ℕ) (out : List ℕ) → (number_of (step z (accept n clock out)).0.outcome ≡ 10 → ⊥) → (r : Request) × (request_of z n.0 ≡ Some r)
@@ -347,10 +319,8 @@ answer_number k d (media kind x timestamp) n e = e
 answer_number k d (accept m clock out) n e = written_number k d [] [] clock out n e
 answer_number k d (reject m code description clock out) n e = written_number k d code description clock out n e
 answer_number k d (finish x clock out) n e = written_number k d [] [] clock out n e
-answer_number k d (send_metadata x m clock out) n e = absurd (not_none _ _ e (sent_none _ _))
-answer_number k d (send_audio x timestamp droppable body out) n e = absurd (not_none _ _ e (sent_none _ _))
-answer_number k d (send_video x timestamp droppable body out) n e = absurd (not_none _ _ e (sent_none _ _))
 answer_number k d (send_ping clock out) n e = absurd (not_none _ _ e (pinged_none _ _))
+answer_number k d other n e = absurd (not_none _ _ e (sent_none _ _))
 
 -- ---- of acts and their calls
 births_call : (l : Log) (act : Act) → made_by (doing (call_of l act)) ≡ creates act

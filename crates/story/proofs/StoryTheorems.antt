@@ -53,13 +53,8 @@ by_link false app o e = refl
 
 by_last : (j : Option Name) (l : Last) (e : Event) → frame_by j (state_of l) e ≡ story_frame j l e
 by_last None l e = refl
-by_last (Some app) Never e = refl
-by_last (Some app) Creation e = refl
-by_last (Some app) Closing e = refl
-by_last (Some app) Deletion e = refl
 by_last (Some app) (PublishAccepted key) e = refl
-by_last (Some app) (PlayAccepted key) e = refl
-by_last (Some app) Finishing e = refl
+by_last (Some app) other e = refl
 
 shown_is : (s : Session) (x : StreamId) (e : Event) → raised (frame_of s x e) ≡ frame_by (link s) (standing (stream_of s x.0)) e
 unfolding frame_of
@@ -83,13 +78,8 @@ nothing_says e app key q = not_none _ _ refl (ap (λ (f : Raised). f.event) (sym
 
 story_says : (j : Option Name) (l : Last) (e : Event) (app key : Name) → story_frame j l e ≡ Under e app key → (j ≡ Some app) × (l ≡ PublishAccepted key)
 story_says None l e app key q = absurd (nothing_says e app key q)
-story_says (Some a) Never e app key q = absurd (nothing_says e app key q)
-story_says (Some a) Creation e app key q = absurd (nothing_says e app key q)
-story_says (Some a) Closing e app key q = absurd (nothing_says e app key q)
-story_says (Some a) Deletion e app key q = absurd (nothing_says e app key q)
 story_says (Some a) (PublishAccepted k) e app key q = (ap Some (ap (λ (f : Raised). f.app) q), ap PublishAccepted (ap (λ (f : Raised). f.key) q))
-story_says (Some a) (PlayAccepted k) e app key q = absurd (nothing_says e app key q)
-story_says (Some a) Finishing e app key q = absurd (nothing_says e app key q)
+story_says (Some a) other e app key q = absurd (nothing_says e app key q)
 
 -- after any run from a fresh session, audio or video on x raises its event under this app and key exactly when the last accepted connect was to this app
 -- and the last effective step on x accepted a publish request with this key
