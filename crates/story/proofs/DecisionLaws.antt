@@ -31,7 +31,7 @@ use Rattle.wishes.specs.declared.wish.PlayFault.{PlayFault}
 use Rattle.wishes.specs.declared.wish.PublishArguments.{PublishArguments}
 use Rattle.wishes.specs.declared.wish.PublishFault.{PublishFault}
 use Rattle.wishes.specs.declared.wish.Wish.{Wish}
-use Rattle.wishes.specs.declared.wish.Wish.TheVariants.{Nothing, CreateStream, CloseStream, DeleteStream, Metadata, PingRequest, PingResponse}
+use Rattle.wishes.specs.declared.wish.Wish.TheVariants.{CreateStream, CloseStream, DeleteStream, Metadata}
 use Rattle.wishes.specs.declared.wish.Wish.TheVariants.{Connect as ConnectWish, Publish as PublishWish, Play as PlayWish}
 use Rattle.session.specs.Changes.{dropping, filing_connect, filing_of, granting, joining, making, no_change, removing, setting}
 use Rattle.session.specs.Decisions.{nothing, raising, refusing_with, replying}

@@ -11,7 +11,7 @@ use Rattle.session.specs.State.{request_of, session_sound, stream_of, with_chang
 use Rattle.session.specs.declared.decision.Decision.{Decision}
 use Rattle.session.specs.declared.session.Session.{Session}
 use Rattle.calls.proofs.SoundTheorems.{accept_sound, finish_sound, message_sound, reject_sound}
-use Rattle.story.specs.Steps.{Call, Response, accept, finish, media, message, reject, send_audio, send_metadata, send_ping, send_video, step}
+use Rattle.story.specs.Steps.{Call, Response, accept, finish, message, reject, step}
 use Rattle.story.specs.Doings.{Doing}
 use Rattle.story.proofs.SessionLaws.{Good, dropped_places, filed_places, made_places, removed_places, request_number_lem, set_places, stream_number_lem}
 use Rattle.story.proofs.DecisionLaws.{Did, closed, completes, connects, deleted, files, grants, joined, made, missed, rejects, still}

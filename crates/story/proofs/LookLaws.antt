@@ -18,7 +18,7 @@ use Rattle.tables.proofs.KeptTheorems.{length_change, length_remove}
 use Rattle.tables.proofs.TablesLaws.{look_no, look_past, look_yes}
 
 pub not_none : {A : Type 0} (o : Option A) (a : A) → o ≡ Some a → o ≡ None → ⊥
-not_none o a p q = let z : ◌≡◌ {A = ℕ} 0 1 = cc in omega arith
+not_none o a p q = cc
 
 pub same_found : {A : Type 0} (o : Option A) (a b : A) → o ≡ Some a → o ≡ Some b → a ≡ b
 same_found o a b p q = cc

@@ -25,14 +25,13 @@ use Rattle.wishes.specs.declared.wish.PlayFault.{PlayFault}
 use Rattle.wishes.specs.declared.wish.PublishArguments.{PublishArguments}
 use Rattle.wishes.specs.declared.wish.PublishFault.{PublishFault}
 use Rattle.wishes.specs.declared.wish.Wish.{Wish}
-use Rattle.wishes.specs.declared.wish.Wish.TheVariants.{Nothing, CreateStream, CloseStream, DeleteStream, Metadata, PingRequest, PingResponse}
+use Rattle.wishes.specs.declared.wish.Wish.TheVariants.{CreateStream, CloseStream, DeleteStream, Metadata}
 use Rattle.wishes.specs.declared.wish.Wish.TheVariants.{Connect as ConnectWish, Publish as PublishWish, Play as PlayWish}
 use Rattle.session.specs.Changes.{applied}
 use Rattle.session.specs.Decisions.{nothing, refusing}
 use Rattle.session.specs.State.{connected, request_of, stream_of, with_changed, with_request, with_stream, without_request, without_stream}
 use Rattle.session.specs.declared.changes.Effect.{Effect}
-use Rattle.session.specs.declared.changes.Effect.TheVariants.{StreamMade, StreamSet, StreamRemoved, RequestFiled, ConnectFiled, ConnectAccepted, StreamAccepted, RequestRemoved}
-use Rattle.session.specs.declared.changes.Effect.TheVariants.{Nothing as NoEffect}
+use Rattle.session.specs.declared.changes.Effect.TheVariants.{StreamMade, StreamSet, StreamRemoved, StreamAccepted}
 use Rattle.session.specs.declared.decision.Decision.{Decision}
 use Rattle.session.specs.declared.decision.Event.{Event}
 use Rattle.session.specs.declared.decision.Event.TheVariants.{ConnectionRequested, PublishStreamRequested, PlayStreamRequested, PublishStreamFinished, PlayStreamFinished, StreamMetadataChanged, AudioDataReceived, VideoDataReceived, PingResponseReceived}
@@ -44,7 +43,7 @@ use Rattle.steps.specs.Commands.{asked, on_asked, play, publish, request_room}
 use Rattle.steps.specs.Deciding.{decide}
 use Rattle.decisions.specs.Answers.{accept_request, completed, finish_playing, granted, reject_request, rejection}
 use Rattle.replies.specs.Replies.{short}
-use Rattle.story.specs.Steps.{Call, Response, accept, finish, media, message, reject, send_audio, send_metadata, send_ping, send_video}
+use Rattle.story.specs.Steps.{Call, Response, accept, finish, media, message, reject}
 use Rattle.story.specs.Doings.{Doing, Wants, Shows, Rests, Accepts, Rejects, Finishes, Sends, doing}
 use Rattle.story.specs.History.{Never, makes}
 use Rattle.story.specs.Orders.{Act, Accept, ConnectlessWant, Plain, Reject, Tagged, ask_at, doing_ask, for_room, made_by, owner_of_want, owns, plain, plain_event, request_in, stream_in, unnumbered, waiting_ask}

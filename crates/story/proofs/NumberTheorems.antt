@@ -15,14 +15,14 @@ use Rattle.session.specs.State.{connected, request_of, stream_of}
 use Rattle.session.specs.declared.decision.Decision.{Decision}
 use Rattle.session.specs.declared.session.Session.{Session}
 use Rattle.story.specs.Steps.{Call, Response, step}
-use Rattle.story.specs.Doings.{Doing, Wants, Shows, Rests, Accepts, Rejects, Finishes, Sends, doing}
+use Rattle.story.specs.Doings.{Doing, Accepts, doing}
 use Rattle.story.specs.Runs.{Start, Told, after, told}
 use Rattle.story.specs.History.{Filed, creations, decided, done, filed, filing, joined_by, joining_kind}
 use Rattle.story.specs.History.{joined as joined_in, joining as joining_by}
 use Rattle.story.specs.Stories.{asked}
 use Rattle.story.proofs.LookLaws.{not_none, same_found}
 use Rattle.story.proofs.SessionLaws.{Good, request_below, stream_absent}
-use Rattle.story.proofs.DecisionLaws.{Did, closed, completes, connects, deleted, files, grants, joined, made, missed, rejects, still}
+use Rattle.story.proofs.DecisionLaws.{Did, closed, connects, deleted, files, still}
 use Rattle.story.proofs.StepLaws.{Took, heard, step_took, took}
 use Rattle.story.proofs.FollowLaws.{Follows, linked_on, still_files, unfiled}
 use Rattle.story.proofs.RunLaws.{follows, good_after}

@@ -25,7 +25,7 @@ use Rattle.story.specs.Runs.{Start, Told, after, told}
 use Rattle.story.specs.History.{Filed, decided, decides, decisions, filed, filings, hits, is_it, times_decided, waiting}
 use Rattle.story.specs.Stories.{as_filed, asked}
 use Rattle.story.proofs.LookLaws.{not_none, same_found, same_or}
-use Rattle.story.proofs.DecisionLaws.{Did, Not15, closed, completes, connects, deleted, files, grants, joined, made, missed, rejects, still}
+use Rattle.story.proofs.DecisionLaws.{Did, Not15, closed, deleted, grants, joined, missed, rejects, still}
 use Rattle.story.proofs.StepLaws.{Took, sent_nothing, step_took, took}
 use Rattle.story.proofs.FollowLaws.{Follows, still_decides}
 use Rattle.story.proofs.RunLaws.{follows, good_after}

@@ -10,7 +10,7 @@ use Rattle.numbers.specs.Choose.{pick}
 use Rattle.numbers.specs.Fields.{field_at}
 use Rattle.text.specs.Words.{command_of, text}
 use Rattle.text.specs.declared.words.Command.{Command}
-use Rattle.text.specs.declared.words.Command.TheVariants.{Connect, CreateStream, CloseStream, DeleteStream, Publish, Play, Other}
+use Rattle.text.specs.declared.words.Command.TheVariants.{Connect}
 use Rattle.amf0.specs.Bodies.{checked}
 use Rattle.amf0.specs.declared.error.BodyError.{BodyError}
 use Rattle.amf0.specs.declared.error.BodyError.TheVariants.{NotAmf0, TooDeep}

@@ -22,8 +22,8 @@ use Rattle.wishes.specs.declared.wish.PlayFault.{PlayFault}
 use Rattle.wishes.specs.declared.wish.PublishArguments.{PublishArguments}
 use Rattle.wishes.specs.declared.wish.PublishFault.{PublishFault}
 use Rattle.wishes.specs.declared.wish.Wish.{Wish}
-use Rattle.wishes.specs.declared.wish.Wish.TheVariants.{Nothing, CreateStream, CloseStream, DeleteStream, Metadata, PingRequest, PingResponse}
-use Rattle.wishes.specs.declared.wish.Wish.TheVariants.{Connect as ConnectWish, Publish as PublishWish, Play as PlayWish}
+use Rattle.wishes.specs.declared.wish.Wish.TheVariants.{CreateStream, CloseStream, DeleteStream, Metadata}
+use Rattle.wishes.specs.declared.wish.Wish.TheVariants.{Publish as PublishWish, Play as PlayWish}
 use Rattle.session.specs.Changes.{applied}
 use Rattle.session.specs.Desk.{desk_of}
 use Rattle.session.specs.State.{connected, request_of, stream_of}
@@ -36,8 +36,8 @@ use Rattle.streams.specs.declared.streams.Frame.{Frame}
 use Rattle.steps.specs.Deciding.{decided, subject_of}
 use Rattle.sending.specs.declared.sends.PingSent.{PingSent}
 use Rattle.replies.specs.Replies.{short}
-use Rattle.story.specs.Steps.{Call, Response, accept, finish, media, message, pinged_as, reject, send_audio, send_metadata, send_ping, send_video, sent_as, step}
-use Rattle.story.specs.Doings.{Doing, Wants, Shows, Rests, Accepts, Rejects, Finishes, Sends, doing}
+use Rattle.story.specs.Steps.{Call, Response, accept, finish, media, message, pinged_as, reject, send_ping, sent_as, step}
+use Rattle.story.specs.Doings.{Doing, Wants, Shows, Accepts, Rejects, doing}
 use Rattle.story.specs.Orders.{Accept, Act, By, Connectless, Each, Finds, HasRoom, Log, NoConnect, Old, Plain, Ref, Reject, Tagged, act_ask, answer_to, ask_at, call_of, creates, creations_in, doing_ask, for_room, go, made_by, mine, number_in, or_else, owner, owner_of, owner_of_want, owns, plain, play_ask, publish_ask, request_in, resolve, stream_in, under, unnumbered, waiting_ask, want_ask}
 use Rattle.story.proofs.LookLaws.{not_none, same_found, same_or}
 use Rattle.story.proofs.SessionLaws.{Good, request_absent, request_below}

@@ -22,7 +22,7 @@ use Rattle.wishes.specs.Outcome.{number_of}
 use Rattle.wishes.specs.declared.outcome.Refusal.{Refusal}
 use Rattle.wishes.specs.declared.outcome.Refusal.TheVariants.{NoRoom}
 use Rattle.wishes.specs.declared.wish.Wish.{Wish}
-use Rattle.wishes.specs.declared.wish.Wish.TheVariants.{Nothing, Connect, CreateStream, CloseStream, DeleteStream, Publish, Play, Metadata, PingRequest, PingResponse}
+use Rattle.wishes.specs.declared.wish.Wish.TheVariants.{CreateStream, CloseStream, DeleteStream}
 use Rattle.session.specs.Changes.{applied}
 use Rattle.session.specs.Decisions.{nothing, refusing}
 use Rattle.session.specs.State.{session_sound}

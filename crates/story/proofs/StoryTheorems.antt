@@ -21,7 +21,7 @@ use Rattle.messages.specs.declared.messages.MediaKind.{MediaKind}
 use Rattle.story.specs.Steps.{Call, media, message, step}
 use Rattle.story.specs.Doings.{Shows, doing, message_doing}
 use Rattle.story.specs.Runs.{Start, after, told}
-use Rattle.story.specs.History.{Last, Never, Creation, Closing, Deletion, PublishAccepted, PlayAccepted, Finishing, joined, last_effective}
+use Rattle.story.specs.History.{Last, PublishAccepted, joined, last_effective}
 use Rattle.story.specs.Stories.{Raised, frame_in, nothing_raised, story_frame}
 use Rattle.story.proofs.LookLaws.{not_none}
 use Rattle.story.proofs.StepLaws.{media_answer_lem, raised}
@@ -97,10 +97,5 @@ or_nothing b cs c x e q n = (frame_by_story b cs c x e q).0 ∙ at (joined (told
   where
     at : (j : Option Name) (l : Last) → ((key : Name) → l ≡ PublishAccepted key → ⊥) → story_frame j l e ≡ nothing_raised
     at None l k = refl
-    at (Some app) Never k = refl
-    at (Some app) Creation k = refl
-    at (Some app) Closing k = refl
-    at (Some app) Deletion k = refl
     at (Some app) (PublishAccepted key) k = absurd (k key refl)
-    at (Some app) (PlayAccepted key) k = refl
-    at (Some app) Finishing k = refl
+    at (Some app) other k = refl

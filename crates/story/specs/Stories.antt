@@ -1,5 +1,5 @@
 -- What the theorems say of a run, in the history's words.
-use Rattle.std.specs.Prelude.{ℕ, ◌≡◌, Bool, true, false, List, [], ◌∷◌, ◌++◌, Option, Some, None, Result, Ok, Err, eqb}
+use Rattle.std.specs.Prelude.{ℕ, ◌≡◌, Bool, true, false, List, [], ◌∷◌, ◌++◌, Option, Some, None, Result, Ok, eqb}
 use Rattle.numbers.specs.Choose.{pick}
 use Rattle.text.specs.Names.{empty_name}
 use Rattle.text.specs.declared.names.Name.{Name}
@@ -9,13 +9,12 @@ use Rattle.tables.specs.declared.requests.Request.{Request}
 use Rattle.wishes.specs.Outcome.{Outcome}
 use Rattle.wishes.specs.declared.outcome.Refusal.{Refusal}
 use Rattle.wishes.specs.declared.wish.Wish.{Wish}
-use Rattle.wishes.specs.declared.wish.Wish.TheVariants.{Nothing, CreateStream, CloseStream, DeleteStream, Metadata, PingRequest, PingResponse}
-use Rattle.wishes.specs.declared.wish.Wish.TheVariants.{Connect as ConnectWish, Publish as PublishWish, Play as PlayWish}
+use Rattle.wishes.specs.declared.wish.Wish.TheVariants.{CloseStream, DeleteStream}
 use Rattle.session.specs.declared.decision.Event.{Event}
 use Rattle.story.specs.Steps.{Call, Response, step}
-use Rattle.story.specs.Doings.{Doing, Wants, Shows, Rests, Accepts, Rejects, Finishes, Sends, doing}
+use Rattle.story.specs.Doings.{Doing, Wants, Accepts, doing}
 use Rattle.story.specs.Runs.{Start, Told, after, told}
-use Rattle.story.specs.History.{Filed, Last, Never, Creation, Closing, Deletion, PublishAccepted, PlayAccepted, Finishing, done, filed}
+use Rattle.story.specs.History.{Filed, Last, PublishAccepted, done, filed}
 
 -- the event of an answer with the app and the key that it is raised under
 pub record Raised : Type 0 where
