@@ -5,6 +5,7 @@ use native.Mathlib.Omega.{arith}
 use mathlib.Core.Bool.{true, false}
 use mathlib.Core.List.{List, [], ◌∷◌}
 use borrow.Author.Tests.{eq-eqb, ne_eqb}
+use Rattle.std.specs.Option.{unwrap_or}
 use Rattle.std.specs.Prelude.{Option, Some, None, Result, Ok, Err, is_some}
 use Rattle.numbers.specs.Choose.{pick}
 use Rattle.numbers.proofs.ChooseLaws.{pick_elim}
@@ -38,7 +39,7 @@ use Rattle.sending.specs.declared.sends.PingSent.{PingSent}
 use Rattle.replies.specs.Replies.{short}
 use Rattle.story.specs.Steps.{Call, Response, accept, finish, media, message, pinged_as, reject, send_ping, sent_as, step}
 use Rattle.story.specs.Doings.{Doing, Wants, Shows, Accepts, Rejects, doing}
-use Rattle.story.specs.Orders.{Accept, Act, By, Connectless, Each, Finds, HasRoom, Log, NoConnect, Old, Plain, Ref, Reject, Tagged, act_ask, answer_to, ask_at, call_of, creates, creations_in, doing_ask, for_room, go, made_by, mine, number_in, or_else, owner, owner_of, owner_of_want, owns, plain, play_ask, publish_ask, request_in, resolve, stream_in, under, unnumbered, waiting_ask, want_ask}
+use Rattle.story.specs.Orders.{Accept, Act, By, Connectless, Each, Finds, HasRoom, Log, NoConnect, Old, Plain, Ref, Reject, Tagged, act_ask, answer_to, ask_at, call_of, creates, creations_in, doing_ask, for_room, go, made_by, mine, number_in, owner, owner_of, owner_of_want, owns, plain, play_ask, publish_ask, request_in, resolve, stream_in, under, unnumbered, waiting_ask, want_ask}
 use Rattle.story.proofs.LookLaws.{not_none, same_found, same_or}
 use Rattle.story.proofs.SessionLaws.{Good, request_absent, request_below}
 use Rattle.story.proofs.DecisionLaws.{Did, decision_at, shown_as}
@@ -230,7 +231,7 @@ module _ (s : Session) (g : Good s) (older : List (Tagged Act)) (m : Core s olde
       same_found _ _ _ a (ap waiting_ask k)
   meant (By t) q p a f = at (number_in (under t (go s older).1)) refl f
     where
-      at : (o : Option ℕ) → number_in (under t (go s older).1) ≡ o → request_of (go s older).0 (or_else (go s older).0.next_request o) ≡ Some p → q ≡ unnumbered p
+      at : (o : Option ℕ) → number_in (under t (go s older).1) ≡ o → request_of (go s older).0 (unwrap_or o (go s older).0.next_request) ≡ Some p → q ≡ unnumbered p
       at None e h = absurd (not_none _ _ h (request_absent (go s older).0 m.good (go s older).0.next_request (omega arith)))
       at (Some n) e h = same_found _ _ _ a ((m.new t n e).1 p h)
 

@@ -1,6 +1,6 @@
 -- Demand 3, the second half: two runs with the same further steps in another order. Steps are tagged; a list has the NEWEST FIRST.
 use Rattle.std.specs.Prelude.{ℕ, ◌+◌, ◌≡◌, Bool, false, ◌||◌, List, [], ◌∷◌, Option, Some, None, Result, Ok, Err, eqb}
-use Rattle.std.specs.Option.{unwrap_or}
+use Rattle.std.specs.Option.{option_and_then, option_map, unwrap_or}
 use Rattle.numbers.specs.Choose.{pick}
 use Rattle.text.specs.Names.{empty_name}
 use Rattle.text.specs.declared.ids.RequestId.{RequestId}
@@ -63,17 +63,12 @@ request_in (Some (PlayStreamRequested n start duration reset x)) = Some n.0
 request_in other = None
 
 abbrev pub number_in : Option Response → Option ℕ
-number_in None = None
-number_in (Some r) = request_in r.event
-
-abbrev pub or_else : ℕ → Option ℕ → ℕ
-or_else d None = d
-or_else d (Some n) = n
+number_in r = option_and_then (λ a. request_in a.event) r
 
 -- the number of the request in this run; where the step of the tag filed none, the next one, which no request has
 abbrev pub resolve : Log → Ref → RequestId
 resolve l (Old n) = record { 0 = n }
-resolve l (By t) = record { 0 = or_else l.0.next_request (number_in (under t l.1)) }
+resolve l (By t) = record { 0 = unwrap_or (number_in (under t l.1)) l.0.next_request }
 
 abbrev pub call_of : Log → Act → Call
 call_of l (Plain c) = c
@@ -99,8 +94,7 @@ abbrev pub unnumbered : Request → Request
 unnumbered r = record { id = record { 0 = 0 }; kind = r.kind; stream = r.stream; mode = r.mode; transaction = r.transaction; name = r.name }
 
 abbrev pub waiting_ask : Option Request → Option Request
-waiting_ask None = None
-waiting_ask (Some r) = Some (unnumbered r)
+waiting_ask r = option_map unnumbered r
 
 -- a name over 128 bytes stands as the empty one: with it nothing is filed
 abbrev pub publish_ask : StreamId → Result PublishArguments PublishFault → Option Request
@@ -155,8 +149,7 @@ owner_of_want next x (Ok (Metadata read)) = Some x.0
 owner_of_want next x other = None
 
 abbrev pub stream_in : Option Request → Option ℕ
-stream_in None = None
-stream_in (Some r) = Some r.stream.0
+stream_in r = option_map (λ q. q.stream.0) r
 
 abbrev pub owner_of : ℕ → Doing → Option ℕ
 owner_of next (Wants x w) = owner_of_want next x w
@@ -255,8 +248,7 @@ abbrev pub plain : Response → Response
 plain r = record { outcome = r.outcome; event = plain_event r.event; app = r.app; key = r.key; metadata = r.metadata; count = r.count; timestamp = r.timestamp; out = r.out }
 
 abbrev pub plain_answer : Option Response → Option Response
-plain_answer None = None
-plain_answer (Some r) = Some (plain r)
+plain_answer r = option_map plain r
 
 -- "Then each step gives the same answer, request numbers apart, and each stream ends alike.": outcome, event, app, key, metadata, count and every byte; state, mode and key
 pub record Alike (s : Session) (l m : List (Tagged Act)) : Type 0 where

@@ -1,5 +1,6 @@
 -- What the theorems say of a run, in the history's words.
 use Rattle.std.specs.Prelude.{ℕ, ◌≡◌, Bool, true, false, List, [], ◌∷◌, ◌++◌, Option, Some, None, Result, Ok, eqb}
+use Rattle.std.specs.Option.{option_map}
 use Rattle.numbers.specs.Choose.{pick}
 use Rattle.text.specs.Names.{empty_name}
 use Rattle.text.specs.declared.names.Name.{Name}
@@ -39,8 +40,7 @@ abbrev pub as_filed : Request → Filed
 as_filed r = record { number = r.id.0; kind = r.kind; stream = r.stream.0; name = r.name }
 
 abbrev pub asked : Option Request → Option Filed
-asked None = None
-asked (Some r) = Some (as_filed r)
+asked r = option_map as_filed r
 
 -- ---- "frames filed under a closed key"
 -- a closeStream or a deleteStream of x
