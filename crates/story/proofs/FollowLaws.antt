@@ -68,9 +68,9 @@ pub record Follows (s : Session) (h : List Told) : Type 0 where
 
 -- an event with no request's number files nothing
 pub unfiled : (x : StreamId) (e : Option Event) (app key : Name) → request_in e ≡ None → filed_by x e app key ≡ None
-unfiled x (Some (ConnectionRequested n)) app key k = absurd (not_none _ _ refl k)
-unfiled x (Some (PublishStreamRequested n mode)) app key k = absurd (not_none _ _ refl k)
-unfiled x (Some (PlayStreamRequested n start duration reset y)) app key k = absurd (not_none _ _ refl k)
+unfiled x (Some (ConnectionRequested n)) app key k = absurd cc
+unfiled x (Some (PublishStreamRequested n mode)) app key k = absurd cc
+unfiled x (Some (PlayStreamRequested n start duration reset y)) app key k = absurd cc
 unfiled x other app key k = refl
 
 -- and one that files has the request's number
@@ -78,7 +78,7 @@ pub filed_number : (x : StreamId) (e : Option Event) (app key : Name) (f : Filed
 filed_number x (Some (ConnectionRequested n)) app key f k = let q : record { number = n.0; kind = Connect; stream = 0; name = app } ≡ f = cc in ap Some (ap (λ (z : Filed). z.number) q)
 filed_number x (Some (PublishStreamRequested n mode)) app key f k = let q : record { number = n.0; kind = Publish; stream = x.0; name = key } ≡ f = cc in ap Some (ap (λ (z : Filed). z.number) q)
 filed_number x (Some (PlayStreamRequested n start duration reset y)) app key f k = let q : record { number = n.0; kind = Play; stream = y.0; name = key } ≡ f = cc in ap Some (ap (λ (z : Filed). z.number) q)
-filed_number x other app key f k = absurd (not_none _ _ k refl)
+filed_number x other app key f k = absurd cc
 
 -- ---- a step that changed nothing is told as nothing
 module _ (s : Session) (d : Decision) where
@@ -109,7 +109,7 @@ module _ (s : Session) (d : Decision) where
 
 -- ---- requests
 found_filed : (b : Bool) (o : Option Filed) (f : Filed) → pick b None o ≡ Some f → o ≡ Some f
-found_filed true o f e = absurd (not_none _ _ e refl)
+found_filed true o f e = absurd cc
 found_filed false o f e = e
 
 -- what waits was filed
@@ -149,28 +149,28 @@ module _ (s : Session) (g : Good s) (h : List Told) (v : Follows s h) where
 stands_none : (l : Last) → state_of l ≡ None → stands l ≡ false
 stands_none Never e = refl
 stands_none Deletion e = refl
-stands_none other e = absurd (not_none _ _ refl e)
+stands_none other e = absurd cc
 
 stands_some : (l : Last) (v : StreamState × Name) → state_of l ≡ Some v → stands l ≡ true
-stands_some Never v e = absurd (not_none _ _ e refl)
-stands_some Deletion v e = absurd (not_none _ _ e refl)
+stands_some Never v e = absurd cc
+stands_some Deletion v e = absurd cc
 stands_some other v e = refl
 
 pub linked_on : (b : Bool) (app a : Name) → pick b (Some app) None ≡ Some a → b ≡ true
 linked_on true app a e = refl
-linked_on false app a e = absurd (not_none _ _ e refl)
+linked_on false app a e = absurd cc
 
 end_none : (new : Last) (j : Option Name) (old : Last) → ((a : Name) → j ≡ Some a → stands old ≡ false) → ending new j old ≡ old
 end_none new None old k = refl
 end_none new (Some a) old k = rw (k a refl)
 
 pub kind_state : (k : RequestKind) (r : Request) (a : Stream) (old : Last) → becomes k r ≡ Some a → (a.id.0 ≡ r.stream.0) × (state_of (acceptance k r.name old) ≡ Some (a.state, a.key))
-kind_state Connect r a old e = absurd (not_none _ _ e refl)
+kind_state Connect r a old e = absurd cc
 kind_state Publish r a old e = let q : publishing r ≡ a = cc in rw (← q) (refl, refl)
 kind_state Play r a old e = let q : playing r ≡ a = cc in rw (← q) (refl, refl)
 
 kind_joins : (k : RequestKind) (r : Request) (a : Stream) (old : Option Name) → becomes k r ≡ Some a → joining_kind k r.name old ≡ old
-kind_joins Connect r a old e = absurd (not_none _ _ e refl)
+kind_joins Connect r a old e = absurd cc
 kind_joins Publish r a old e = refl
 kind_joins Play r a old e = refl
 

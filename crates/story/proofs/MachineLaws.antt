@@ -354,4 +354,4 @@ module _ (s : Session) (h : Good s) where
   did_files (connects f i k a) z n e = absurd (rw a.0 at z)
   did_files (closed q c f k) z n e = absurd (not_none _ _ e k.files)
   did_files (deleted q c f k) z n e = absurd (not_none _ _ e k.files)
-  did_files other z n e = absurd (not_none _ _ e refl)
+  did_files other z n e = absurd cc

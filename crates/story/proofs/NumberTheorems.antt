@@ -29,7 +29,7 @@ use Rattle.story.proofs.RunLaws.{follows, good_after}
 
 -- ---- requests
 asked_some : (o : Option Request) (f : Filed) → asked o ≡ Some f → (r : Request) × (o ≡ Some r)
-asked_some None f e = absurd (not_none _ _ e refl)
+asked_some None f e = absurd cc
 asked_some (Some r) f e = (r, refl)
 
 module _ (s : Session) (g : Good s) (h : List Told) (v : Follows s h) where
@@ -51,7 +51,7 @@ module _ (s : Session) (g : Good s) (h : List Told) (v : Follows s h) where
   did_gives (connects {r = r} u i k a) c t out f e = ap (λ (z : Filed). z.number) (sym (same_found _ _ _ u e)) ∙ k.number
   did_gives (closed {y = y} {d = d} q c u k) m t out f e = absurd (not_none _ _ e (unfiled y d.event d.app d.key k.files))
   did_gives (deleted {y = y} {d = d} q c u k) m t out f e = absurd (not_none _ _ e (unfiled y d.event d.app d.key k.files))
-  did_gives other c t out f e = absurd (not_none _ _ e refl)
+  did_gives other c t out f e = absurd cc
 
 took_gives : {s : Session} {k : Doing} {a : Response} {t : Session} → Took s k a t → Good s → (h : List Told) → Follows s h → (f : Filed) → filing k a ≡ Some f → f.number ≡ s.next_request
 took_gives {s} (took d n t out k) g h v = did_gives s g h v k n t out

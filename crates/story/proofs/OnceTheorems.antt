@@ -39,7 +39,7 @@ filed_is_decided_and_waiting b cs = ((follows b cs).counts, (follows b cs).waits
 -- ---- a request that was decided
 asked_none : (o : Option Request) → asked o ≡ None → o ≡ None
 asked_none None e = refl
-asked_none (Some r) e = absurd (not_none _ _ refl e)
+asked_none (Some r) e = absurd cc
 
 pub gone : (b : Start) (cs : List Call) (n : ℕ) → decided n (told b cs) ≡ true → request_of (after b cs) n ≡ None
 gone b cs n d = asked_none _ ((follows b cs).waits n ∙ rw d)
@@ -64,7 +64,7 @@ never_accepted_twice b cs n d clock out =
 
 -- ---- what a step decides was not decided before
 undone : (b : Bool) (o : Option Filed) (f : Filed) → pick b None o ≡ Some f → b ≡ false
-undone true o f e = absurd (not_none _ _ e refl)
+undone true o f e = absurd cc
 undone false o f e = refl
 
 module _ (s : Session) (h : List Told) (v : Follows s h) where
@@ -77,7 +77,7 @@ module _ (s : Session) (h : List Told) (v : Follows s h) where
   did_undecided (grants {n = n} {r = r} f k o) m e = found_undecided n r f m e
   did_undecided (missed {n = n} {r = r} f k o) m e = found_undecided n r f m e
   did_undecided (rejects {n = n} {r = r} f) m e = found_undecided n r f m e
-  did_undecided other m e = absurd (not_none _ _ e refl)
+  did_undecided other m e = absurd cc
 
 took_undecided : {s : Session} {k : Doing} {a : Response} {t : Session} → Took s k a t → (h : List Told) → Follows s h → (m : ℕ) → decides k a.outcome ≡ Some m → decided m h ≡ false
 took_undecided {s} (took d n t out k) h v = did_undecided s h v k

@@ -121,25 +121,25 @@ module _ (s : Session) (p : Tagged Act) (older : List (Tagged Act)) where
 -- ---- a filing step of x is among x's own
 publish_owner : (x : StreamId) (a : Result PublishArguments PublishFault) (q : Request) → publish_ask x a ≡ Some q → Some x.0 ≡ Some q.stream.0
 publish_owner x (Ok a) q h = ap stream_in h
-publish_owner x (Err f) q h = absurd (not_none _ _ h refl)
+publish_owner x (Err f) q h = absurd cc
 
 play_owner : (x : StreamId) (a : Result PlayArguments PlayFault) (q : Request) → play_ask x a ≡ Some q → Some x.0 ≡ Some q.stream.0
 play_owner x (Ok a) q h = ap stream_in h
-play_owner x (Err f) q h = absurd (not_none _ _ h refl)
+play_owner x (Err f) q h = absurd cc
 
 want_owner : (next : ℕ) (x : StreamId) (v : Result Wish Refusal) (q : Request) → want_ask x v ≡ Some q → owner_of_want next x v ≡ Some q.stream.0
 want_owner next x (Ok (PublishWish t a)) q h = publish_owner x a q h
 want_owner next x (Ok (PlayWish t a)) q h = play_owner x a q h
-want_owner next x other q h = absurd (not_none _ _ h refl)
+want_owner next x other q h = absurd cc
 
 doing_owner : (next : ℕ) (g : Doing) (q : Request) → doing_ask g ≡ Some q → owner_of next g ≡ Some q.stream.0
 doing_owner next (Wants x w) q h = want_owner next x w q h
-doing_owner next other q h = absurd (not_none _ _ h refl)
+doing_owner next other q h = absurd cc
 
 asks_owner : (s : Session) (older : List (Tagged Act)) (act : Act) (q : Request) → act_ask (Some act) ≡ Some q → owner s older act ≡ Some q.stream.0
 asks_owner s older (Plain c) q h = doing_owner _ (doing c) q h
-asks_owner s older (Accept r clock out) q h = absurd (not_none _ _ h refl)
-asks_owner s older (Reject r code description clock out) q h = absurd (not_none _ _ h refl)
+asks_owner s older (Accept r clock out) q h = absurd cc
+asks_owner s older (Reject r code description clock out) q h = absurd cc
 
 mine_look : (s : Session) (t : ℕ) (q : Request) (l : List (Tagged Act)) → act_ask (under t l) ≡ Some q → under t (mine s q.stream.0 l) ≡ under t l
 unfolding mine
@@ -219,7 +219,7 @@ reject_found z g n code description clock out h = at (request_of z n.0) refl
     at (Some r) e = (r, e)
 
 waiting_some : (o : Option Request) (q : Request) → waiting_ask o ≡ Some q → (r : Request) × (o ≡ Some r)
-waiting_some None q e = absurd (not_none _ _ e refl)
+waiting_some None q e = absurd cc
 waiting_some (Some r) q e = (r, refl)
 
 module _ (s : Session) (g : Good s) (older : List (Tagged Act)) (m : Core s older) where
@@ -298,7 +298,7 @@ module _ (s : Session) (g : Good s) (older : List (Tagged Act)) (m : Core s olde
 -- ---- the number in an answer is the decision's
 fitted_number : (d : Decision) (c : Option ℕ) (out : List ℕ) (n : ℕ) → request_in (fitted d c out).event ≡ Some n → request_in d.event ≡ Some n
 fitted_number d (Some c) out n e = e
-fitted_number d None out n e = absurd (not_none _ _ e refl)
+fitted_number d None out n e = absurd cc
 
 written_number : (k : Constants) (d : Decision) (code description : List ℕ) (clock : ℕ) (out : List ℕ) (n : ℕ) → request_in (written k d code description clock out).event ≡ Some n → request_in d.event ≡ Some n
 written_number k d code description clock out n e =
@@ -419,7 +419,7 @@ pub sim : (s : Session) → Good s → connected s ≡ true → (l : List (Tagge
 unfolding go creations_in machine machine_answers mine replies_of under
 sim s g on [] n r f =
     record {
-      core = record { good = g; on = on; same = refl; app = refl; next = omega arith; base = omega arith; old = λ i q lt h. h; new = λ t i h. absurd (not_none _ _ h refl) };
+      core = record { good = g; on = on; same = refl; app = refl; next = omega arith; base = omega arith; old = λ i q lt h. h; new = λ t i h. absurd cc };
       agree = λ x. refl;
       told = λ x. refl;
     }
