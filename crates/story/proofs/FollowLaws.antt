@@ -36,7 +36,7 @@ use Rattle.story.specs.History.{Filed, Last, Never, Creation, Closing, Deletion,
 use Rattle.story.specs.History.{joined as joined_in}
 use Rattle.story.specs.Stories.{as_filed, asked}
 use Rattle.story.specs.Orders.{request_in}
-use Rattle.story.proofs.LookLaws.{not_none, same_or}
+use Rattle.story.proofs.LookLaws.{same_or}
 use Rattle.story.proofs.SessionLaws.{Good, dropped_count, dropped_other, dropped_same, filed_other, filed_same, made_other, made_same, next_count, next_number, removed_other, removed_same, request_below, request_number_lem, set_other, set_same, stream_number_lem}
 use Rattle.story.proofs.DecisionLaws.{Did, Next, Still, StillWant, becomes, closed, completes, connects, deleted, files, grants, joined, made, missed, rejects, still}
 use Rattle.story.proofs.StepLaws.{heard}
