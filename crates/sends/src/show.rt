@@ -23,7 +23,12 @@ fn kept(out: &[u8], n: usize) -> bool {
     out.iter().skip(n).all(|b| *b == 0xA5)
 }
 
-pub fn show(output: &mut impl Write, name: &[u8], sent: Option<usize>, out: &[u8]) -> io::Result<()> {
+pub fn show(
+    output: &mut impl Write,
+    name: &[u8],
+    sent: Option<usize>,
+    out: &[u8],
+) -> io::Result<()> {
     say(output, name)?;
     match sent {
         Some(count) => {
