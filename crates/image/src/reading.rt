@@ -1,14 +1,14 @@
 // From the arrays to a session.
-ghost use Rattle.std.specs.Prelude.{◌≡◌, ◌%◌, ◌≤◌, min, length};
-ghost use Rattle.tables.specs.Entries.{found_request, found_stream, request_number, stream_number};
+ghost use Rattle.std.specs.Prelude.{◌≡◌, ◌≤◌, ◌++◌, drop, length, min, take};
+ghost use Rattle.tables.specs.Entries.{request_number, stream_number};
 ghost use Rattle.tables.specs.Tables.{look};
 ghost use Rattle.session.specs.State.{session_sound};
-ghost use Rattle.image.specs.Image.{request_of, requests_at, session_at, stream_of, streams_at, used_requests, used_streams};
+ghost use Rattle.image.specs.Image.{joined, session_at, used_requests, used_streams};
 
-use crate::cases::{kind_of, mode_of, session_state, state_of};
-use crate::rows::short_number;
+use crate::cases::session_state;
+use crate::rows::{Row, short_number};
 use session::{Session, session_sound};
-use tables::{Request, RequestFound, Stream, StreamFound, no_request, no_stream};
+use tables::{Request, Stream, no_request, no_stream};
 use text::{Name, RequestId, StreamId};
 
 // How many of the sixteen places a count takes.
@@ -18,75 +18,14 @@ pub fn rows_in_use(count: u64) -> usize
     if count < 16 { count as usize } else { 16 }
 }
 
-fn read_stream(row: [u64; 4], bytes: [u8; 128]) -> Stream
-    ensures { result ≡ stream_of row bytes }
+// The rows in use, over the first places of a table.
+fn read_rows<R: Row>(rows: &[R], names: &[[u8; 128]], n: usize, table: &mut [R::Entry])
+    requires { (n ≤ length rows.now) × ((n ≤ length names.now) × (n ≤ length table.old)) }
+    ensures { table.new ≡ take n (joined R.entry rows.now names.now) ++ drop n table.old }
 {
-    let id = StreamId(short_number(row[0]));
-    let state = state_of(row[1]);
-    let mode = mode_of(row[2]);
-    let len = row[3] as usize;
-    Stream {
-        id,
-        state,
-        mode,
-        key: Name { bytes, len },
+    for i in 0..n {
+        table[i] = rows[i].entry(names[i]);
     }
-}
-
-fn read_request(row: [u64; 6], bytes: [u8; 128]) -> Request
-    ensures { result ≡ request_of row bytes }
-{
-    let id = RequestId(short_number(row[0]));
-    let kind = kind_of(row[1]);
-    let stream = StreamId(short_number(row[2]));
-    let mode = mode_of(row[3]);
-    let transaction = row[4];
-    let len = row[5] as usize;
-    Request {
-        id,
-        kind,
-        stream,
-        mode,
-        transaction,
-        name: Name { bytes, len },
-    }
-}
-
-// The rows in use; the places behind them are blank.
-fn read_streams(rows: &[[u64; 4]], names: &[[u8; 128]], count: u64) -> [Stream; 16]
-    requires { (length rows.now ≡ 16) × (length names.now ≡ 34) }
-    ensures { result ≡ streams_at count rows.now names.now }
-{
-    let n = rows_in_use(count);
-    let blank = no_stream();
-    let mut t = [blank; 16];
-    let mut i: usize = 0;
-    while i < n {
-        let row = rows[i];
-        let bytes = names[2 + i];
-        let e = read_stream(row, bytes);
-        t[i] = e;
-        i += 1;
-    }
-    t
-}
-
-fn read_requests(rows: &[[u64; 6]], names: &[[u8; 128]], count: u64) -> [Request; 16]
-    requires { (length rows.now ≡ 16) × (length names.now ≡ 34) }
-    ensures { result ≡ requests_at count rows.now names.now }
-{
-    let n = rows_in_use(count);
-    let blank = no_request();
-    let mut t = [blank; 16];
-    let mut i: usize = 0;
-    while i < n {
-        let row = rows[i];
-        let bytes = names[18 + i];
-        let e = read_request(row, bytes);
-        t[i] = e;
-        i += 1;
-    }
-    t
 }
 
 // All of a session, which only the slow way of `image_sound` needs.
@@ -109,8 +48,20 @@ fn read_among(
     let next_request = short_number(facts[7]);
     let stream_count = facts[8] as usize;
     let request_count = facts[9] as usize;
-    let stream_table = read_streams(streams, names, facts[8]);
-    let request_table = read_requests(requests, names, facts[9]);
+    let mut stream_table = [no_stream(); 16];
+    let mut request_table = [no_request(); 16];
+    read_rows(
+        streams,
+        &names[2..18],
+        rows_in_use(facts[8]),
+        &mut stream_table,
+    );
+    read_rows(
+        requests,
+        &names[18..34],
+        rows_in_use(facts[9]),
+        &mut request_table,
+    );
     Session {
         start: facts[0],
         version: Name {
@@ -146,54 +97,24 @@ pub fn read_sound(
     session_sound(session)
 }
 
-fn find_among(rows: &[[u64; 4]], names: &[[u8; 128]], n: usize, id: StreamId) -> StreamFound
-    requires { (n ≤ 16) × ((length rows.now ≡ 16) × (length names.now ≡ 34)) }
-    ensures { result ≡ found_stream (look stream_number id.0 (used_streams n rows.now names.now)) }
+fn find<R: Row>(rows: &[R], names: &[[u8; 128]], n: usize, id: u32) -> Option<R::Entry>
+    requires { (n ≤ length rows.now) × (n ≤ length names.now) }
+    ensures { result ≡ look R.Entry.number id (take n (joined R.entry rows.now names.now)) }
 {
-    let want = id.0;
-    let mut i: usize = 0;
-    while i < n {
+    for i in 0..n {
         let row = rows[i];
-        if short_number(row[0]) == want {
-            let bytes = names[2 + i];
-            let stream = read_stream(row, bytes);
-            return StreamFound {
-                found: true,
-                stream,
-            };
+        if short_number(row.number()) == id {
+            return Some(row.entry(names[i]));
         }
-        i += 1;
     }
-    let stream = no_stream();
-    StreamFound {
-        found: false,
-        stream,
-    }
+    None
 }
 
-fn find_waiting(rows: &[[u64; 6]], names: &[[u8; 128]], n: usize, id: RequestId) -> RequestFound
-    requires { (n ≤ 16) × ((length rows.now ≡ 16) × (length names.now ≡ 34)) }
-    ensures { result ≡ found_request (look request_number id.0 (used_requests n rows.now names.now)) }
+fn find_among<R: Row>(rows: &[R], names: &[[u8; 128]], count: u64, id: u32) -> Option<R::Entry>
+    requires { (length rows.now ≡ 16) × (length names.now ≡ 16) }
+    ensures { result ≡ look R.Entry.number id (take count (joined R.entry rows.now names.now)) }
 {
-    let want = id.0;
-    let mut i: usize = 0;
-    while i < n {
-        let row = rows[i];
-        if short_number(row[0]) == want {
-            let bytes = names[18 + i];
-            let request = read_request(row, bytes);
-            return RequestFound {
-                found: true,
-                request,
-            };
-        }
-        i += 1;
-    }
-    let request = no_request();
-    RequestFound {
-        found: false,
-        request,
-    }
+    find(rows, names, rows_in_use(count), id)
 }
 
 // The stream of a number among those in use, without the others.
@@ -202,10 +123,10 @@ pub fn find_row(
     names: &[[u8; 128]; 34],
     count: u64,
     id: StreamId,
-) -> StreamFound
-    ensures { result ≡ found_stream (look stream_number id.0 (used_streams count streams.now names.now)) }
+) -> Option<Stream>
+    ensures { result ≡ look stream_number id.0 (used_streams count streams.now names.now) }
 {
-    find_among(streams, names, rows_in_use(count), id)
+    find_among(&streams[..], &names[2..18], count, id.0)
 }
 
 // The waiting request of a number.
@@ -214,8 +135,8 @@ pub fn find_request_row(
     names: &[[u8; 128]; 34],
     count: u64,
     id: RequestId,
-) -> RequestFound
-    ensures { result ≡ found_request (look request_number id.0 (used_requests count requests.now names.now)) }
+) -> Option<Request>
+    ensures { result ≡ look request_number id.0 (used_requests count requests.now names.now) }
 {
-    find_waiting(requests, names, rows_in_use(count), id)
+    find_among(&requests[..], &names[18..34], count, id.0)
 }

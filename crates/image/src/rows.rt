@@ -1,8 +1,12 @@
 // A row of either table.
-ghost use Rattle.std.specs.Prelude.{◌≡◌, ℕ, ◌%◌, Bool};
+ghost use Rattle.std.specs.Prelude.{◌≡◌, ℕ, ◌%◌, Bool, List, refl};
 ghost use Rattle.text.specs.declared.names.Name.{Name};
-ghost use Rattle.image.specs.Image.{request_readable, stream_readable};
+ghost use Rattle.image.specs.Image.{request_of, request_readable, stream_of, stream_readable};
 ghost use Rattle.image.specs.Quick.{request_weight, row_number, stream_weight};
+
+use crate::cases::{kind_of, mode_of, state_of};
+use tables::{Entry, Request, Stream};
+use text::{Name, RequestId, StreamId};
 
 // A number of 32 bits; `readable` sees to it that nothing is cut.
 pub fn short_number(n: u64) -> u32
@@ -12,6 +16,11 @@ pub fn short_number(n: u64) -> u32
 }
 
 pub trait Row: Copy {
+    // What a row and a name are read as.
+    type Entry: Entry;
+
+    ghost entry: { Self → List ℕ → Self.Entry };
+
     ghost readable: { Self → Bool };
 
     ghost number: { Self → ℕ };
@@ -22,24 +31,47 @@ pub trait Row: Copy {
     fn readable(self) -> bool
         ensures { result ≡ readable self };
 
+    fn entry(self, bytes: [u8; 128]) -> Self::Entry
+        ensures { result ≡ entry self bytes };
+
     fn number(self) -> u64
         ensures { result ≡ number self };
 
     // The length of the name, or one that is too long where the row is not readable.
     fn weight(self) -> u64
         ensures { result ≡ (weight self).len };
+
+    ghost numbered: { (row : Self) (bytes : List ℕ) → Self.Entry.number (entry row bytes) ≡ number row % 4294967296 };
 }
 
 impl Row for [u64; 4] {
+    type Entry = Stream;
+
+    ghost entry = { stream_of };
+
     ghost readable = { stream_readable };
 
     ghost number = { row_number };
 
     ghost weight = { stream_weight };
 
+    ghost numbered = { λ row bytes. refl };
+
     #[tactic(auto, unfolding(crate::specs::Image::stream_readable))]
     fn readable(self) -> bool {
         self[0] < 4294967296 && self[1] < 4 && self[2] < 3
+    }
+
+    fn entry(self, bytes: [u8; 128]) -> Stream {
+        Stream {
+            id: StreamId(short_number(self[0])),
+            state: state_of(self[1]),
+            mode: mode_of(self[2]),
+            key: Name {
+                bytes,
+                len: self[3] as usize,
+            },
+        }
     }
 
     fn number(self) -> u64 {
@@ -56,15 +88,35 @@ impl Row for [u64; 4] {
 }
 
 impl Row for [u64; 6] {
+    type Entry = Request;
+
+    ghost entry = { request_of };
+
     ghost readable = { request_readable };
 
     ghost number = { row_number };
 
     ghost weight = { request_weight };
 
+    ghost numbered = { λ row bytes. refl };
+
     #[tactic(auto, unfolding(crate::specs::Image::request_readable))]
     fn readable(self) -> bool {
         self[0] < 4294967296 && self[1] < 3 && self[2] < 4294967296 && self[3] < 3
+    }
+
+    fn entry(self, bytes: [u8; 128]) -> Request {
+        Request {
+            id: RequestId(short_number(self[0])),
+            kind: kind_of(self[1]),
+            stream: StreamId(short_number(self[2])),
+            mode: mode_of(self[3]),
+            transaction: self[4],
+            name: Name {
+                bytes,
+                len: self[5] as usize,
+            },
+        }
     }
 
     fn number(self) -> u64 {

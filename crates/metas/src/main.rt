@@ -12,14 +12,13 @@ use std::io;
 use std::io::{Read, Write};
 
 fn write_line(output: &mut impl Write, body: &[u8]) -> io::Result<()> {
-    let read = metadata::read_metadata(body, 0);
-    let m = read.metadata;
-    if read.encoder_fits {
-        fields::write_fields(output, m)?;
-        sending::write_record(output, m)?;
-        say(output, b"\n")
-    } else {
-        say(output, b"long\n")
+    match metadata::read_metadata(body, 0) {
+        Ok(m) => {
+            fields::write_fields(output, m)?;
+            sending::write_record(output, m)?;
+            say(output, b"\n")
+        }
+        Err(_) => say(output, b"long\n"),
     }
 }
 

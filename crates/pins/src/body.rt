@@ -1,6 +1,6 @@
 // One AMF0 body: read, checked, and its values written as a line.
 use crate::show::{hex, line, say};
-use amf0::{Amf0Value, Checked, Cursor, Found};
+use amf0::{Amf0Value, BodyError, Cursor};
 use input::read_spelled;
 use std::io;
 use std::io::{Read, Write};
@@ -32,7 +32,10 @@ fn write_boolean(output: &mut impl Write, b: bool) -> io::Result<()> {
 }
 
 fn write_value(output: &mut impl Write, body: &[u8], at: usize) -> io::Result<()> {
-    match amf0::read_value(body, at).value {
+    let Some(read) = amf0::read_value(body, at) else {
+        return say(output, b"none");
+    };
+    match read.value {
         Amf0Value::Number(_) => write_number(output, body, at),
         Amf0Value::Boolean(b) => write_boolean(output, b),
         Amf0Value::Text { start, len } => {
@@ -49,20 +52,22 @@ fn write_value(output: &mut impl Write, body: &[u8], at: usize) -> io::Result<()
             say(output, b"long=")?;
             write_text(output, body, start, len)
         }
-        Amf0Value::NoValue => say(output, b"none"),
     }
 }
 
 fn has_properties(body: &[u8], at: usize) -> bool {
-    matches!(amf0::read_value(body, at).value, Amf0Value::Object { .. })
+    match amf0::read_value(body, at) {
+        Some(read) => matches!(read.value, Amf0Value::Object { .. }),
+        None => false,
+    }
 }
 
 // The value of the last property "a".
 fn write_property(output: &mut impl Write, body: &[u8], at: usize) -> io::Result<()> {
     say(output, b"[")?;
     match amf0::last_property(body, at, b"a") {
-        Found::At(p) => write_value(output, body, p)?,
-        Found::Missing => say(output, b"none")?,
+        Some(p) => write_value(output, body, p)?,
+        None => say(output, b"none")?,
     }
     say(output, b"]")
 }
@@ -100,12 +105,12 @@ fn write_values(output: &mut impl Write, body: &[u8]) -> io::Result<()> {
 
 fn write_body(output: &mut impl Write, body: &[u8]) -> io::Result<()> {
     match amf0::check_body(body) {
-        Checked::Whole => {
+        Ok(()) => {
             say(output, b"whole")?;
             write_values(output, body)?;
         }
-        Checked::Bad => say(output, b"bad")?,
-        Checked::Deep => say(output, b"deep")?,
+        Err(BodyError::NotAmf0) => say(output, b"bad")?,
+        Err(BodyError::TooDeep) => say(output, b"deep")?,
     }
     line(output)
 }
