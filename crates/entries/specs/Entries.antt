@@ -1,16 +1,17 @@
 -- "A trace is entries end to end; each is one byte of kind, then its fields." The bytes begin with the entry in question.
-use Rattle.std.specs.Prelude.{ℕ, ◌+◌, Bool, true, false, ◌&&◌, List, eqb, leb, length}
+use Rattle.std.specs.Prelude.{ℕ, ◌+◌, Bool, true, false, ◌&&◌, List, Option, Some, None, eqb, leb, length}
+use Rattle.std.specs.Option.{option_map_or}
 use Rattle.numbers.specs.Choose.{pick}
 use Rattle.numbers.specs.Fields.{field_at}
 use Rattle.entries.specs.declared.kinds.Kind.{Kind}
-use Rattle.entries.specs.declared.kinds.Kind.TheVariants.{Start, Message, Accept, Reject, Finish, Metadata, Media, Ping, State, Damage, Unknown}
+use Rattle.entries.specs.declared.kinds.Kind.TheVariants.{Start, Message, Accept, Reject, Finish, Metadata, Media, Ping, State, Damage}
 
-unfoldable pub kind_of : ℕ → Kind
+unfoldable pub kind_of : ℕ → Option Kind
 kind_of n =
-    pick (eqb n 1) Start (pick (eqb n 2) Message (pick (eqb n 3) Accept (pick (eqb n 4) Reject (pick (eqb n 5) Finish
-    (pick (eqb n 6) Metadata (pick (eqb n 7) Media (pick (eqb n 8) Ping (pick (eqb n 9) State (pick (eqb n 10) Damage Unknown)))))))))
+    pick (eqb n 1) (Some Start) (pick (eqb n 2) (Some Message) (pick (eqb n 3) (Some Accept) (pick (eqb n 4) (Some Reject) (pick (eqb n 5) (Some Finish)
+    (pick (eqb n 6) (Some Metadata) (pick (eqb n 7) (Some Media) (pick (eqb n 8) (Some Ping) (pick (eqb n 9) (Some State) (pick (eqb n 10) (Some Damage) None)))))))))
 
-abbrev pub kind_in : List ℕ → Kind
+abbrev pub kind_in : List ℕ → Option Kind
 kind_in e = kind_of (field_at 1 e 0)
 
 -- "n u16, code (n bytes), m u16, description (m bytes)"
@@ -29,10 +30,10 @@ length_of Media e = 19 + field_at 4 e 15
 length_of Ping e = 13
 length_of State e = 1
 length_of Damage e = 7
-length_of Unknown e = 0
 
+-- of no kind it is 0
 unfoldable pub entry_length : List ℕ → ℕ
-entry_length e = length_of (kind_in e) e
+entry_length e = option_map_or (λ k. length_of k e) (kind_in e) 0
 
 abbrev pub room_at : Kind → List ℕ → ℕ
 room_at Start e = field_at 4 e 22
@@ -45,10 +46,9 @@ room_at Media e = field_at 4 e 11
 room_at Ping e = field_at 4 e 9
 room_at State e = 0
 room_at Damage e = 0
-room_at Unknown e = 0
 
 unfoldable pub room_of : List ℕ → ℕ
-room_of e = room_at (kind_in e) e
+room_of e = option_map_or (λ k. room_at k e) (kind_in e) 0
 
 -- "a flag byte (.., stereo) other than 0 and 1, .. a bit of `set` above bit 10"
 unfoldable pub good_metadata : List ℕ → Bool
@@ -70,11 +70,10 @@ fields_good Media e = good_media e
 fields_good Ping e = true
 fields_good State e = true
 fields_good Damage e = leb (field_at 1 e 1) 9
-fields_good Unknown e = false
 
 -- "a longer one, an unknown kind, a cut entry, a flag byte .. ends the run"; "`room` at most 66,560"
 unfoldable pub good_entry : List ℕ → Bool
-good_entry e = leb (entry_length e) (length e) && (leb (room_of e) 66560 && fields_good (kind_in e) e)
+good_entry e = leb (entry_length e) (length e) && (leb (room_of e) 66560 && option_map_or (λ k. fields_good k e) (kind_in e) false)
 
 -- "The first entry is a start (anything else is `bad trace at 1`)"
 abbrev pub begins_trace : List ℕ → Bool

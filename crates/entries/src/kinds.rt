@@ -2,7 +2,7 @@
 ghost use Rattle.std.specs.Prelude.{◌≡◌};
 ghost use Rattle.entries.specs.Entries.{kind_of};
 
-#[derive(Clone, Copy)]
+#[derive(Clone, Copy, Debug, PartialEq, Eq)]
 pub enum Kind {
     Start,
     Message,
@@ -14,23 +14,23 @@ pub enum Kind {
     Ping,
     State,
     Damage,
-    Unknown,
 }
 
-pub fn kind_of(byte: u8) -> Kind
+#[tactic(auto, unfolding(crate::specs::Entries::kind_of))]
+pub fn kind_of(byte: u8) -> Option<Kind>
     ensures { result ≡ kind_of byte }
 {
     match byte {
-        1 => Kind::Start,
-        2 => Kind::Message,
-        3 => Kind::Accept,
-        4 => Kind::Reject,
-        5 => Kind::Finish,
-        6 => Kind::Metadata,
-        7 => Kind::Media,
-        8 => Kind::Ping,
-        9 => Kind::State,
-        10 => Kind::Damage,
-        _ => Kind::Unknown,
+        1 => Some(Kind::Start),
+        2 => Some(Kind::Message),
+        3 => Some(Kind::Accept),
+        4 => Some(Kind::Reject),
+        5 => Some(Kind::Finish),
+        6 => Some(Kind::Metadata),
+        7 => Some(Kind::Media),
+        8 => Some(Kind::Ping),
+        9 => Some(Kind::State),
+        10 => Some(Kind::Damage),
+        _ => None,
     }
 }

@@ -1,5 +1,5 @@
 -- The short way through refusal 15 lets nothing through that the long way refuses.
-use mathlib.Core.Path.{◌≡◌, refl, sym, ap, ◌∙◌}
+use mathlib.Core.Path.{◌≡◌, refl, ap, ◌∙◌}
 use Prim.Native.Nat.{ℕ, zero, suc, ◌+◌, ◌%◌, ◌≤◌, ◌<◌}
 use native.Mathlib.Nat.{mod-eq_of_lt}
 use native.Mathlib.Omega.{arith}
@@ -8,14 +8,15 @@ use mathlib.Core.Bool.{Bool, true, false}
 use mathlib.Core.List.{List, [], ◌∷◌}
 use lib.Dec.{eqb, leb, ltb}
 use lib.ListN.{length, take}
-use borrow.Author.Tests.{le-leb, lt-leb, le-ltb, lt-ltb, leb-true, ltb-true}
+use borrow.Author.Tests.{le-leb, le-ltb, lt-ltb, leb-true, ltb-true}
 use Rattle.numbers.proofs.PatternLaws.{le_or_lt}
 use Rattle.text.specs.declared.names.Name.{Name}
+use Rattle.std.specs.List.{list_all}
 use Rattle.tables.specs.Entries.{no_request, no_stream, request_name, request_number, stream_name, stream_number}
 use Rattle.tables.specs.Tables.{rises_from, sound, table_sound}
 use Rattle.tables.proofs.SoundLaws.{both, rises_sound}
 use Rattle.session.specs.State.{app_fits, session_sound}
-use Rattle.image.specs.Image.{cell, every, facts_readable, joined, keys_of, readable_at, request_of, request_readable, requests_at, session_at, sound_at, stream_of, stream_readable, streams_at, titles_of}
+use Rattle.image.specs.Image.{cell, facts_readable, joined, keys_of, readable_at, request_of, request_readable, requests_at, session_at, sound_at, stream_of, stream_readable, streams_at, titles_of}
 use Rattle.image.specs.Quick.{quick_at, request_weight, row_number, stream_weight}
 use Rattle.image.proofs.RowsLaws.{all_length, used_front, used_length}
 
@@ -60,8 +61,7 @@ module _ {A : Type 0} (f : List ℕ → List ℕ → A) (number : A → ℕ) (na
       let c = both (leb (weight row).len 128) _ b.1 in
       record { from = leb-true low (cell row 0) a.0; under = ltb-true (cell row 0) next b.0; light = leb-true (weight row).len 128 c.0; rest = c.1 }
 
-  pub rows_readable : (low n : ℕ) (rows : List (List ℕ)) → rises_from row_number weight next low (take n rows) ≡ true → every readable (take n rows) ≡ true
-  unfolding every
+  pub rows_readable : (low n : ℕ) (rows : List (List ℕ)) → rises_from row_number weight next low (take n rows) ≡ true → list_all readable (take n rows) ≡ true
   rows_readable low zero rows e = refl
   rows_readable low (suc n) [] e = refl
   rows_readable low (suc n) (row ∷ rows) e =
@@ -100,87 +100,43 @@ request_says row bytes h g = (mod-eq_of_lt h, go (le_or_lt 3 (cell row 1)) (le_o
     go (inr a) (inr b) (inr c) =
         (omega (arith, request_fine row a b c, g), simp (lt-ltb (cell row 0) 4294967296 h, lt-ltb (cell row 1) 3 a, lt-ltb (cell row 2) 4294967296 b, lt-ltb (cell row 3) 3 c))
 
--- ---- the short way, test after test
-module _ (facts : List ℕ) (streams requests : List (List ℕ)) where
-  pub quick_version : 128 < cell facts 1 → false ≡ quick_at facts streams requests
-  unfolding quick_at
-  quick_version h = simp (lt-leb (cell facts 1) 128 h)
-
-  module _ (a : cell facts 1 ≤ 128) where
-    pub quick_app : 128 < cell facts 4 → false ≡ quick_at facts streams requests
-    unfolding quick_at
-    quick_app h = simp (le-leb (cell facts 1) 128 a, lt-leb (cell facts 4) 128 h)
-
-    module _ (b : cell facts 4 ≤ 128) where
-      pub quick_streams : 16 < cell facts 8 → false ≡ quick_at facts streams requests
-      unfolding quick_at
-      quick_streams h = simp (le-leb (cell facts 1) 128 a, le-leb (cell facts 4) 128 b, lt-leb (cell facts 8) 16 h)
-
-      module _ (c : cell facts 8 ≤ 16) where
-        pub quick_requests : 16 < cell facts 9 → false ≡ quick_at facts streams requests
-        unfolding quick_at
-        quick_requests h = simp (le-leb (cell facts 1) 128 a, le-leb (cell facts 4) 128 b, le-leb (cell facts 8) 16 c, lt-leb (cell facts 9) 16 h)
-
-        module _ (d : cell facts 9 ≤ 16) (s : Bool) (e : s ≡ rises_from row_number stream_weight (cell facts 6) 0 (take (cell facts 8) streams)) where
-          pub quick_falls : s ≡ false → false ≡ quick_at facts streams requests
-          unfolding quick_at
-          quick_falls q = simp (le-leb (cell facts 1) 128 a, le-leb (cell facts 4) 128 b, le-leb (cell facts 8) 16 c, le-leb (cell facts 9) 16 d, sym e ∙ q)
-
-          pub quick_rises : s ≡ true → (r : Bool) → r ≡ rises_from row_number request_weight (cell facts 7) 0 (take (cell facts 9) requests) → r ≡ quick_at facts streams requests
-          unfolding quick_at
-          quick_rises q r g = g ∙ simp (le-leb (cell facts 1) 128 a, le-leb (cell facts 4) 128 b, le-leb (cell facts 8) 16 c, le-leb (cell facts 9) 16 d, sym e ∙ q)
-
 app_fits_lem : (set : Bool) (len : ℕ) → leb len 128 ≡ true → app_fits set len ≡ true
 app_fits_lem true len e = e
 app_fits_lem false len e = refl
 
 -- ---- and what refusal 15 says
 module _ (facts : List ℕ) (streams requests names : List (List ℕ)) where
-  module _ (b : Bool) (e : b ≡ facts_readable facts) where
-    pub sound_unreadable : b ≡ false → false ≡ sound_at facts streams requests names
-    unfolding sound_at readable_at
-    sound_unreadable q = simp (sym e ∙ q)
+  module _ (q : facts_readable facts ≡ true) (h : length streams ≡ 16) (g : length requests ≡ 16) (k : length names ≡ 34) where
+    facts_fit : (cell facts 6 < 4294967296) × (cell facts 7 < 4294967296)
+    unfolding facts_readable
+    facts_fit =
+        let x = both (ltb (cell facts 2) 2) _ q in
+        let y = both (ltb (cell facts 3) 2) _ x.1 in
+        let z = both (ltb (cell facts 6) 4294967296) _ y.1 in
+        (ltb-true (cell facts 6) 4294967296 z.0, ltb-true (cell facts 7) 4294967296 z.1)
 
-    module _ (q : b ≡ true) (h : length streams ≡ 16) (g : length requests ≡ 16) (k : length names ≡ 34) where
-      facts_fit : (cell facts 6 < 4294967296) × (cell facts 7 < 4294967296)
-      unfolding facts_readable
-      facts_fit =
-          let x = both (ltb (cell facts 2) 2) _ (sym e ∙ q) in
-          let y = both (ltb (cell facts 3) 2) _ x.1 in
-          let z = both (ltb (cell facts 6) 4294967296) _ y.1 in
-          (ltb-true (cell facts 6) 4294967296 z.0, ltb-true (cell facts 7) 4294967296 z.1)
-
-      pub quick_sound : (r : Bool) → r ≡ quick_at facts streams requests → r ≡ true → true ≡ sound_at facts streams requests names
-      unfolding sound_at readable_at quick_at session_sound session_at table_sound
-      quick_sound r i j =
-          let a = both (leb (cell facts 1) 128) _ (sym i ∙ j) in
-          let c = both (leb (cell facts 4) 128) _ a.1 in
-          let d = both (leb (cell facts 8) 16) _ c.1 in
-          let w = both (leb (cell facts 9) 16) _ d.1 in
-          let v = both (rises_from row_number stream_weight (cell facts 6) 0 (take (cell facts 8) streams)) _ w.1 in
-          let s = facts_fit in
-          let m : cell facts 6 % 4294967296 ≡ cell facts 6 = mod-eq_of_lt s.0 in
-          let n : cell facts 7 % 4294967296 ≡ cell facts 7 = mod-eq_of_lt s.1 in
-          let ks = all_length stream_of streams names 2 h (omega (arith, k)) in
-          let kr = all_length request_of requests names 18 g (omega (arith, k)) in
-          let cs = leb-true (cell facts 8) 16 d.0 in
-          let cr = leb-true (cell facts 9) 16 w.0 in
-          let ls : length (streams_at (cell facts 8) streams names) ≡ 16 = used_length (joined stream_of streams (keys_of names)) ks no_stream (cell facts 8) cs in
-          let lr : length (requests_at (cell facts 9) requests names) ≡ 16 = used_length (joined request_of requests (titles_of names)) kr no_request (cell facts 9) cr in
-          let x : sound stream_number stream_name (cell facts 6) (take (cell facts 8) (streams_at (cell facts 8) streams names)) ≡ true =
-          ap (sound stream_number stream_name (cell facts 6)) (used_front (joined stream_of streams (keys_of names)) ks no_stream (cell facts 8))
-          ∙ rises_sound stream_number stream_name (cell facts 6) 0 _ (rows_rise stream_of stream_number stream_name stream_readable stream_weight (cell facts 6) (omega (arith, s.0)) stream_says 0 (cell facts 8) streams (keys_of names) v.0) in
-          let y : sound request_number request_name (cell facts 7) (take (cell facts 9) (requests_at (cell facts 9) requests names)) ≡ true =
-          ap (sound request_number request_name (cell facts 7)) (used_front (joined request_of requests (titles_of names)) kr no_request (cell facts 9))
-          ∙ rises_sound request_number request_name (cell facts 7) 0 _ (rows_rise request_of request_number request_name request_readable request_weight (cell facts 7) (omega (arith, s.1)) request_says 0 (cell facts 9) requests (titles_of names) v.1) in
-          simp
-          (sym e ∙ q, rows_readable stream_of stream_number stream_name stream_readable stream_weight (cell facts 6) (omega (arith, s.0)) stream_says 0 (cell facts 8) streams v.0, rows_readable request_of request_number request_name request_readable request_weight (cell facts 7) (omega (arith, s.1)) request_says 0 (cell facts 9) requests v.1, a.0, app_fits_lem (eqb (cell facts 3) 1) (cell facts 4) c.0, m, n, ls, lr, d.0, w.0, x, y)
-
-  module _ (r : Bool) (e : r ≡ readable_at facts streams requests) where
-    pub sound_rows : r ≡ false → false ≡ sound_at facts streams requests names
-    unfolding sound_at
-    sound_rows q = simp (sym e ∙ q)
-
-    pub sound_read : r ≡ true → (t : Bool) → t ≡ session_sound (session_at facts streams requests names) → t ≡ sound_at facts streams requests names
-    unfolding sound_at
-    sound_read q t w = w ∙ simp (sym e ∙ q)
+    pub quick_sound : quick_at facts streams requests ≡ true → sound_at facts streams requests names ≡ true
+    unfolding sound_at readable_at quick_at session_sound session_at table_sound
+    quick_sound j =
+        let a = both (leb (cell facts 1) 128) _ j in
+        let c = both (leb (cell facts 4) 128) _ a.1 in
+        let d = both (leb (cell facts 8) 16) _ c.1 in
+        let w = both (leb (cell facts 9) 16) _ d.1 in
+        let v = both (rises_from row_number stream_weight (cell facts 6) 0 (take (cell facts 8) streams)) _ w.1 in
+        let s = facts_fit in
+        let m : cell facts 6 % 4294967296 ≡ cell facts 6 = mod-eq_of_lt s.0 in
+        let n : cell facts 7 % 4294967296 ≡ cell facts 7 = mod-eq_of_lt s.1 in
+        let ks = all_length stream_of streams names 2 h (omega (arith, k)) in
+        let kr = all_length request_of requests names 18 g (omega (arith, k)) in
+        let cs = leb-true (cell facts 8) 16 d.0 in
+        let cr = leb-true (cell facts 9) 16 w.0 in
+        let ls : length (streams_at (cell facts 8) streams names) ≡ 16 = used_length (joined stream_of streams (keys_of names)) ks no_stream (cell facts 8) cs in
+        let lr : length (requests_at (cell facts 9) requests names) ≡ 16 = used_length (joined request_of requests (titles_of names)) kr no_request (cell facts 9) cr in
+        let x : sound stream_number stream_name (cell facts 6) (take (cell facts 8) (streams_at (cell facts 8) streams names)) ≡ true =
+        ap (sound stream_number stream_name (cell facts 6)) (used_front (joined stream_of streams (keys_of names)) ks no_stream (cell facts 8))
+        ∙ rises_sound stream_number stream_name (cell facts 6) 0 _ (rows_rise stream_of stream_number stream_name stream_readable stream_weight (cell facts 6) (omega (arith, s.0)) stream_says 0 (cell facts 8) streams (keys_of names) v.0) in
+        let y : sound request_number request_name (cell facts 7) (take (cell facts 9) (requests_at (cell facts 9) requests names)) ≡ true =
+        ap (sound request_number request_name (cell facts 7)) (used_front (joined request_of requests (titles_of names)) kr no_request (cell facts 9))
+        ∙ rises_sound request_number request_name (cell facts 7) 0 _ (rows_rise request_of request_number request_name request_readable request_weight (cell facts 7) (omega (arith, s.1)) request_says 0 (cell facts 9) requests (titles_of names) v.1) in
+        simp
+        (q, rows_readable stream_of stream_number stream_name stream_readable stream_weight (cell facts 6) (omega (arith, s.0)) stream_says 0 (cell facts 8) streams v.0, rows_readable request_of request_number request_name request_readable request_weight (cell facts 7) (omega (arith, s.1)) request_says 0 (cell facts 9) requests v.1, a.0, app_fits_lem (eqb (cell facts 3) 1) (cell facts 4) c.0, m, n, ls, lr, d.0, w.0, x, y)

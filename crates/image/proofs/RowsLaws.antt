@@ -1,18 +1,17 @@
 -- Rows read one by one, and rows found.
-use mathlib.Core.Path.{◌≡◌, refl, sym, ap, ◌∙◌, subst}
+use mathlib.Core.Path.{◌≡◌, refl, sym, ap, ◌∙◌}
 use Prim.Native.Nat.{ℕ, zero, suc, ◌+◌, ◌-◌, ◌%◌, ◌≤◌, ◌<◌, min}
 use native.Mathlib.Numerals.{add-one}
 use native.Mathlib.Omega.{arith}
-use mathlib.Core.Bool.{Bool, true, false}
 use mathlib.Core.Logic.{inl, inr}
 use mathlib.Core.List.{List, [], ◌∷◌, ◌++◌, append-nil}
 use mathlib.Core.Option.{Option, some, none}
 use lib.ListN.{length, length-append, length-replicate, take, drop, set, get_or, length-drop, replicate}
-use lib.Seq.{append_snoc, get_or-drop, get_or-take, length-take-le, set_at, take_all, take_at, take-suc, take-take}
+use lib.Seq.{append_snoc, get_or-drop, get_or-take, length-take-le, set_at, take_at, take-suc, take-take}
 use Rattle.numbers.proofs.PatternLaws.{le_or_lt}
 use Rattle.tables.specs.Tables.{look}
-use Rattle.tables.proofs.TablesLaws.{look_at, next_entry, no_entry, seek_done, seek_next, take_in}
-use Rattle.image.specs.Image.{Wide, cell, every, facts_readable, joined, readable_at, request_readable, stream_readable}
+use Rattle.tables.proofs.TablesLaws.{look_at, seek_done, seek_next, take_in}
+use Rattle.image.specs.Image.{Wide, cell, joined}
 
 -- ---- rows joined with their names
 module _ {A : Type 0} (f : List ℕ → List ℕ → A) where
@@ -53,24 +52,6 @@ module _ {A : Type 0} (l : List A) (h : length l ≡ 16) (blank : A) (c : ℕ) w
   used_counted n q =
       let m : 16 - n ≡ 16 - c = omega (arith, q) in
       λ j. take_in l c n (omega (arith, q, h)) j ++ replicate (m j) blank
-
--- ---- a test of every row
-module _ (p : List ℕ → Bool) (l : List (List ℕ)) (n i : ℕ) (r : Bool) (so : every p (drop i (take n l)) ≡ r) where
-  module _ (h : i < n) (g : n ≤ length l) (b : Bool) (e : b ≡ p (get_or l i [])) where
-    every_on : r ≡ every p (get_or l i [] ∷ drop (i + 1) (take n l))
-    every_on = sym so ∙ ap (every p) (next_entry l n i [] h g)
-
-    pub every_no : b ≡ false → false ≡ r
-    unfolding every
-    every_no q = sym (every_on ∙ simp (sym e ∙ q))
-
-    pub every_next : b ≡ true → every p (drop (i + 1) (take n l)) ≡ r
-    unfolding every
-    every_next q = sym (every_on ∙ simp (sym e ∙ q))
-
-  pub every_end : n ≤ i → true ≡ r
-  unfolding every
-  every_end h = sym (sym so ∙ ap (every p) (no_entry l n i h))
 
 -- ---- rows, and the entries that are made of them
 module _ {A : Type 0} (f : List ℕ → List ℕ → A) (rows names : List (List ℕ)) (b : ℕ) (h : length rows ≡ 16) (g : b + 16 ≤ length names) where
@@ -121,33 +102,7 @@ module _ {A : Type 0} (f : List ℕ → List ℕ → A) (rows names : List (List
     find_counted c n q r e = e ∙ ap (λ (t : List A). told (look number id t)) (take_in all c n (omega (arith, q, all_length)))
 
 -- ---- each row is as wide as its type says
-wide_snoc : (k : ℕ) (a : List (List ℕ)) (x : List ℕ) → Wide k a → length x ≡ k → Wide k (a ++ (x ∷ []))
+pub wide : (k : ℕ) (rows : List (List ℕ)) → ((i : ℕ) → i < length rows → length (get_or rows i []) ≡ k) → Wide k rows
 unfolding Wide
-wide_snoc k [] x w e = (e, tt)
-wide_snoc k (y ∷ a) x w e = (w.0, wide_snoc k a x w.1 e)
-
-pub wide_next : (k : ℕ) (rows : List (List ℕ)) (i : ℕ) → i < length rows → Wide k (take i rows) → length (get_or rows i []) ≡ k → Wide k (take (i + 1) rows)
-wide_next k rows i h w e =
-    let p : take i rows ++ (get_or rows i [] ∷ []) ≡ take (i + 1) rows = sym (take-suc rows i [] h) ∙ ap (λ (j : ℕ). take j rows) (sym (add-one i)) in
-    subst (Wide k) p (wide_snoc k (take i rows) (get_or rows i []) w e)
-
-pub wide_all : (k : ℕ) (rows : List (List ℕ)) (i : ℕ) → length rows ≤ i → Wide k (take i rows) → Wide k rows
-wide_all k rows i h w = subst (Wide k) (take_all i rows h) w
-
--- ---- whether all is readable
-module _ (facts : List ℕ) (streams requests : List (List ℕ)) (b : Bool) (e : b ≡ facts_readable facts) where
-  pub facts_unreadable : b ≡ false → false ≡ readable_at facts streams requests
-  unfolding readable_at
-  facts_unreadable q = simp (sym e ∙ q)
-
-  module _ (q : b ≡ true) (n : ℕ) (k : n ≡ min (cell facts 8) (length streams)) (s : Bool) (f : s ≡ every stream_readable (take n streams)) where
-    counted : s ≡ every stream_readable (take (cell facts 8) streams)
-    counted = f ∙ ap (every stream_readable) (take_in streams (cell facts 8) n k)
-
-    pub streams_unreadable : s ≡ false → false ≡ readable_at facts streams requests
-    unfolding readable_at
-    streams_unreadable p = simp (sym e ∙ q, sym counted ∙ p)
-
-    pub requests_readable : s ≡ true → (m : ℕ) → m ≡ min (cell facts 9) (length requests) → (r : Bool) → r ≡ every request_readable (take m requests) → r ≡ readable_at facts streams requests
-    unfolding readable_at
-    requests_readable p m j r g = g ∙ ap (every request_readable) (take_in requests (cell facts 9) m j) ∙ simp (sym e ∙ q, sym counted ∙ p)
+wide k [] e = tt
+wide k (r ∷ rows) e = (e 0 (omega arith), wide k rows (λ i h. e (suc i) (omega (arith, h))))

@@ -1,6 +1,7 @@
 -- A session in four arrays: ten facts, sixteen rows of four for the streams, sixteen rows of six for the requests, and
 -- thirty-four names of 128 bytes: the version, the app, the streams' keys, the requests' names.
-use Rattle.std.specs.Prelude.{◌≡◌, ℕ, ◌-◌, ◌%◌, Bool, true, ◌&&◌, List, [], ◌∷◌, ◌++◌, eqb, ltb, drop, get_or, length, replicate, take}
+use Rattle.std.specs.Prelude.{◌≡◌, ℕ, ◌-◌, ◌%◌, Bool, ◌&&◌, List, [], ◌∷◌, ◌++◌, eqb, ltb, drop, get_or, length, replicate, take}
+use Rattle.std.specs.List.{list_all}
 use Rattle.tables.specs.Entries.{no_request, no_stream}
 use Rattle.tables.specs.declared.requests.Request.{Request}
 use Rattle.tables.specs.declared.streams.Stream.{Stream}
@@ -82,15 +83,11 @@ stream_readable row = fits32 (cell row 0) && (ltb (cell row 1) 4 && ltb (cell ro
 unfoldable pub request_readable : List ℕ → Bool
 request_readable row = fits32 (cell row 0) && (ltb (cell row 1) 3 && (fits32 (cell row 2) && ltb (cell row 3) 3))
 
-unfoldable pub every : (List ℕ → Bool) → List (List ℕ) → Bool
-every p [] = true
-every p (r ∷ rows) = p r && every p rows
-
 unfoldable pub facts_readable : List ℕ → Bool
 facts_readable facts = ltb (cell facts 2) 2 && (ltb (cell facts 3) 2 && (fits32 (cell facts 6) && fits32 (cell facts 7)))
 
 unfoldable pub readable_at : List ℕ → List (List ℕ) → List (List ℕ) → Bool
-readable_at facts streams requests = facts_readable facts && (every stream_readable (take (cell facts 8) streams) && every request_readable (take (cell facts 9) requests))
+readable_at facts streams requests = facts_readable facts && (list_all stream_readable (take (cell facts 8) streams) && list_all request_readable (take (cell facts 9) requests))
 
 -- refusal 15 of the arrays: a number that names nothing, or a session that does not pass its tests
 unfoldable pub sound_at : List ℕ → List (List ℕ) → List (List ℕ) → List (List ℕ) → Bool

@@ -1,11 +1,13 @@
-// The cases of a session's enums by number.
+// The cases of a session's enums by number. Functions, since the enums and the numbers are both of other crates: no impl of
+// `From` may stand here.
 ghost use Rattle.std.specs.Prelude.{◌≡◌};
-ghost use Rattle.image.specs.Cases.{flag_number, kind_number, kind_of, mode_number, mode_of, session_state, session_state_number, state_number, state_of};
+ghost use Rattle.image.specs.Cases.{flag_number, kind_of, mode_number, mode_of, session_state, state_of};
 
 use session::SessionState;
 use tables::{RequestKind, StreamState};
 use text::PublishMode;
 
+#[tactic(auto, unfolding(crate::specs::Cases::state_of))]
 pub fn state_of(n: u64) -> StreamState
     ensures { result ≡ state_of n }
 {
@@ -17,17 +19,7 @@ pub fn state_of(n: u64) -> StreamState
     }
 }
 
-pub fn state_number(state: StreamState) -> u64
-    ensures { result ≡ state_number state }
-{
-    match state {
-        StreamState::Created => 0,
-        StreamState::Publishing => 1,
-        StreamState::Playing => 2,
-        StreamState::Completed => 3,
-    }
-}
-
+#[tactic(auto, unfolding(crate::specs::Cases::mode_of))]
 pub fn mode_of(n: u64) -> PublishMode
     ensures { result ≡ mode_of n }
 {
@@ -41,13 +33,10 @@ pub fn mode_of(n: u64) -> PublishMode
 pub fn mode_number(mode: PublishMode) -> u64
     ensures { result ≡ mode_number mode }
 {
-    match mode {
-        PublishMode::Live => 0,
-        PublishMode::Append => 1,
-        PublishMode::Record => 2,
-    }
+    mode as u64
 }
 
+#[tactic(auto, unfolding(crate::specs::Cases::kind_of))]
 pub fn kind_of(n: u64) -> RequestKind
     ensures { result ≡ kind_of n }
 {
@@ -58,16 +47,7 @@ pub fn kind_of(n: u64) -> RequestKind
     }
 }
 
-pub fn kind_number(kind: RequestKind) -> u64
-    ensures { result ≡ kind_number kind }
-{
-    match kind {
-        RequestKind::Connect => 0,
-        RequestKind::Publish => 1,
-        RequestKind::Play => 2,
-    }
-}
-
+#[tactic(auto, unfolding(crate::specs::Cases::session_state))]
 pub fn session_state(n: u64) -> SessionState
     ensures { result ≡ session_state n }
 {
@@ -77,17 +57,8 @@ pub fn session_state(n: u64) -> SessionState
     }
 }
 
-pub fn session_state_number(state: SessionState) -> u64
-    ensures { result ≡ session_state_number state }
-{
-    match state {
-        SessionState::Started => 0,
-        SessionState::Connected => 1,
-    }
-}
-
 pub fn flag_number(flag: bool) -> u64
     ensures { result ≡ flag_number flag }
 {
-    if flag { 1 } else { 0 }
+    u64::from(flag)
 }

@@ -6,10 +6,12 @@
 
 mod cases;
 mod reading;
+mod rows;
 mod shape;
 mod sound;
 
-pub use cases::{flag_number, kind_number, mode_number, session_state_number, state_number};
+pub use cases::{flag_number, mode_number};
 pub use reading::{find_request_row, find_row, rows_in_use};
+pub use rows::{Row, short_number};
 pub use shape::types_say;
 pub use sound::image_sound;

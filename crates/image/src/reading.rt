@@ -6,6 +6,7 @@ ghost use Rattle.session.specs.State.{session_sound};
 ghost use Rattle.image.specs.Image.{request_of, requests_at, session_at, stream_of, streams_at, used_requests, used_streams};
 
 use crate::cases::{kind_of, mode_of, session_state, state_of};
+use crate::rows::short_number;
 use session::{Session, session_sound};
 use tables::{Request, RequestFound, Stream, StreamFound, no_request, no_stream};
 use text::{Name, RequestId, StreamId};
@@ -15,13 +16,6 @@ pub fn rows_in_use(count: u64) -> usize
     ensures { result ≡ min count 16 }
 {
     if count < 16 { count as usize } else { 16 }
-}
-
-// A number of 32 bits; `readable` sees to it that nothing is cut.
-fn short_number(n: u64) -> u32
-    ensures { result ≡ n % 4294967296 }
-{
-    (n % 4294967296) as u32
 }
 
 fn read_stream(row: [u64; 4], bytes: [u8; 128]) -> Stream

@@ -1,35 +1,16 @@
 -- The next entry, by what the code found.
 use mathlib.Core.Path.{◌≡◌, sym, ap, ◌∙◌}
 use Prim.Native.Nat.{ℕ}
-use mathlib.Core.Bool.{Bool, true, false, ◌&&◌}
+use mathlib.Core.Bool.{Bool, true, false}
 use mathlib.Core.List.{List}
-use lib.Dec.{eqb}
 use lib.ListN.{take}
-use borrow.Author.Tests.{eq-eqb, ne_eqb}
 use Rattle.session.specs.declared.session.Session.{Session}
-use Rattle.entries.specs.Entries.{begins_trace, entry_length, good_entry}
+use Rattle.entries.specs.Entries.{entry_length}
 use Rattle.plays.specs.Plays.{said}
 use Rattle.plays.specs.declared.turns.Turn.{Turn}
 use Rattle.replay.specs.Replay.{played}
 use Rattle.replay.specs.Next.{bad_text, ended, going, may_stand, next_played}
 use Rattle.replay.specs.declared.next.Next.{Next}
-
--- ---- whether it may stand there
-module _ (rest : List ℕ) (b : Bool) (e : b ≡ begins_trace rest) where
-  pub opens_not : b ≡ false → false ≡ begins_trace rest && good_entry rest
-  opens_not q = let z : begins_trace rest ≡ false = sym e ∙ q in simp z
-
-  pub opens_so : b ≡ true → (g : Bool) → g ≡ good_entry rest → g ≡ begins_trace rest && good_entry rest
-  opens_so q g k = let z : begins_trace rest ≡ true = sym e ∙ q in k ∙ simp z
-
-module _ (entry : ℕ) (rest : List ℕ) (g : Bool) where
-  pub first_stands : entry ≡ 1 → g ≡ begins_trace rest && good_entry rest → g ≡ may_stand entry rest
-  unfolding may_stand
-  first_stands h k = k ∙ simp (eq-eqb entry 1 h)
-
-  pub later_stands : (entry ≡ 1 → ⊥) → g ≡ good_entry rest → g ≡ may_stand entry rest
-  unfolding may_stand
-  later_stands h k = k ∙ simp (ne_eqb entry 1 h)
 
 -- ---- what comes of it
 module _ (s : Session) (rest : List ℕ) (entry space : ℕ) (line : List ℕ) (b : Bool) (e : b ≡ may_stand entry rest) where

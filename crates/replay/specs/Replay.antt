@@ -1,12 +1,13 @@
 -- An entry, played: the call that its kind names, the text for it, and the next session.
 use Rattle.std.specs.Prelude.{ℕ, List, ltb, replicate}
+use Rattle.std.specs.Option.{option_map_or}
 use Rattle.numbers.specs.Choose.{pick}
 use Rattle.numbers.specs.Fields.{field_at}
 use Rattle.text.specs.Words.{text}
 use Rattle.session.specs.declared.session.Session.{Session}
 use Rattle.entries.specs.Entries.{kind_in, room_of}
 use Rattle.entries.specs.declared.kinds.Kind.{Kind}
-use Rattle.entries.specs.declared.kinds.Kind.TheVariants.{Start, Message, Accept, Reject, Finish, Metadata, Media, Ping, State, Damage, Unknown}
+use Rattle.entries.specs.declared.kinds.Kind.TheVariants.{Start, Message, Accept, Reject, Finish, Metadata, Media, Ping, State, Damage}
 use Rattle.states.specs.State.{state_text}
 use Rattle.damage.specs.Damage.{damaged}
 use Rattle.plays.specs.Plays.{accept_played, finish_played, media_line, message_played, metadata_line, pinged_line, reject_played, said, start_played, turn_of}
@@ -28,8 +29,8 @@ kind_played Media s e out line = turn_of s (said (media_line s e out) line)
 kind_played Ping s e out line = turn_of s (said (pinged_line s e out) line)
 kind_played State s e out line = turn_of s (said (state_text s) line)
 kind_played Damage s e out line = damage_played s e line
-kind_played Unknown s e out line = turn_of s (0, line)
 
--- "The out buffer is filled with A5 before each call." A space that is shorter than the room plays nothing.
+-- "The out buffer is filled with A5 before each call." A space that is shorter than the room plays nothing, nor does an unknown kind.
 unfoldable pub played : Session → List ℕ → ℕ → List ℕ → Turn × List ℕ
-played s e space line = pick (ltb space (room_of e)) (turn_of s (0, line)) (kind_played (kind_in e) s e (replicate (room_of e) 165) line)
+played s e space line =
+    pick (ltb space (room_of e)) (turn_of s (0, line)) (option_map_or (λ k. kind_played k s e (replicate (room_of e) 165) line) (kind_in e) (turn_of s (0, line)))

@@ -1,6 +1,5 @@
 // The next entry of a trace: played, or the line that ends the run.
-ghost use Rattle.std.specs.Prelude.{◌≡◌, ◌&&◌, length};
-ghost use Rattle.entries.specs.Entries.{begins_trace, good_entry};
+ghost use Rattle.std.specs.Prelude.{◌≡◌, length};
 ghost use Rattle.plays.specs.Plays.{said};
 ghost use Rattle.replay.specs.Next.{bad_text, may_stand, next_played};
 
@@ -19,24 +18,14 @@ pub struct Next {
     pub count: usize,
 }
 
-fn opens(e: &[u8]) -> bool
-    ensures { result ≡ begins_trace e.now && good_entry e.now }
-{
-    if !begins_trace(e) {
-        return false;
-    }
-    good_entry(e)
-}
-
+#[tactic(auto, unfolding(crate::specs::Next::may_stand))]
 fn may_stand(e: &[u8], entry: u64) -> bool
     ensures { result ≡ may_stand entry e.now }
 {
-    if entry == 1 {
-        return opens(e);
-    }
-    good_entry(e)
+    (entry != 1 || begins_trace(e)) && good_entry(e)
 }
 
+#[tactic(auto, using(spelling::proofs::TextLaws::put_more), unfolding(crate::specs::Next::bad_text))]
 fn bad_trace(line: &mut [u8], entry: u64) -> usize
     ensures { (result, line.new) ≡ said (bad_text entry) line.old }
 {

@@ -43,17 +43,6 @@ fn play_kind(kind: Kind, s: Session, e: &[u8], out: &mut [u8], line: &mut [u8]) 
         Kind::Ping => stay(s, play_ping(s, e, out, line)),
         Kind::State => stay(s, put_state(line, 0, s)),
         Kind::Damage => play_damage(s, e, line),
-        Kind::Unknown => stay(s, 0),
-    }
-}
-
-fn fill(out: &mut [u8])
-    ensures { out.new ≡ replicate (length out.old) 165 }
-{
-    let mut i = 0;
-    while i < out.len() {
-        out[i] = 0xA5;
-        i += 1;
     }
 }
 
@@ -61,7 +50,7 @@ fn fill(out: &mut [u8])
 fn play_filled(kind: Kind, s: Session, e: &[u8], out: &mut [u8], line: &mut [u8]) -> Turn
     ensures { (result, line.new) ≡ kind_played kind s e.now (replicate (length out.old) 165) line.old }
 {
-    fill(out);
+    out.fill(0xA5);
     play_kind(kind, s, e, out, line)
 }
 
@@ -69,10 +58,12 @@ fn play_filled(kind: Kind, s: Session, e: &[u8], out: &mut [u8], line: &mut [u8]
 pub fn play_entry(s: Session, e: &[u8], space: &mut [u8], line: &mut [u8]) -> Turn
     ensures { (result, line.new) ≡ played s e.now (length space.old) line.old }
 {
-    let kind = kind_of(byte_at(e, 0));
     let room = room_of(e) as usize;
     if space.len() < room {
         return stay(s, 0);
     }
-    play_filled(kind, s, e, &mut space[..room], line)
+    match kind_of(byte_at(e, 0)) {
+        Some(kind) => play_filled(kind, s, e, &mut space[..room], line),
+        None => stay(s, 0),
+    }
 }

@@ -1,5 +1,6 @@
 -- "NAME CODE [ACTION STREAM] [EVENT FIELD=VALUE ..] [ping=N] [out=HEX] [spilt]"
-use Rattle.std.specs.Prelude.{ℕ, Bool, true, ◌&&◌, List, [], ◌∷◌, ◌++◌, eqb, drop, take}
+use Rattle.std.specs.Prelude.{ℕ, Bool, List, [], ◌++◌, eqb, drop, take}
+use Rattle.std.specs.List.{list_all}
 use Rattle.numbers.specs.Choose.{pick}
 use Rattle.text.specs.Words.{text}
 use Rattle.text.specs.declared.names.Name.{Name}
@@ -11,9 +12,8 @@ use Rattle.lines.specs.Lines.{event_line, outcome_text}
 use Rattle.spelling.specs.Text.{hex_of, number_field}
 
 -- every byte is still A5
-unfoldable pub untouched : List ℕ → Bool
-untouched [] = true
-untouched (x ∷ t) = eqb x 165 && untouched t
+abbrev pub untouched : List ℕ → Bool
+untouched out = list_all (λ x. eqb x 165) out
 
 -- "out=HEX is what was written, from the first byte to the written count, and is left out where that is 0."
 unfoldable pub written_text : ℕ → List ℕ → List ℕ

@@ -14,17 +14,11 @@ use wishes::{Outcome, number_of};
 fn untouched(out: &[u8], n: usize) -> bool
     ensures { result ≡ untouched_from (drop n out.now) }
 {
-    let mut i = n;
-    while i < out.len() {
-        if out[i] != 0xA5 {
-            return false;
-        }
-        i += 1;
-    }
-    true
+    out.iter().skip(n).all(|b| *b == 0xA5)
 }
 
 // "out=HEX is what was written, .. and is left out where that is 0."
+#[tactic(auto, using(spelling::proofs::TextLaws::put_none), unfolding(crate::specs::AnswerLine::written_text))]
 fn put_written(line: &mut [u8], at: usize, count: usize, out: &[u8]) -> usize
     ensures { (result, line.new) ≡ put_all (written_text count out.now) (at, line.old) }
 {
@@ -36,16 +30,19 @@ fn put_written(line: &mut [u8], at: usize, count: usize, out: &[u8]) -> usize
 }
 
 // "`spilt` stands where a byte of the buffer past the written count is no longer A5"
+#[tactic(auto, unfolding(crate::specs::AnswerLine::spilt_text))]
 fn put_spilt(line: &mut [u8], at: usize, count: usize, out: &[u8]) -> usize
     ensures { (result, line.new) ≡ put_all (spilt_text count out.now) (at, line.old) }
 {
     if untouched(out, count) {
-        return put_word(line, at, b"\n");
+        put_word(line, at, b"\n")
+    } else {
+        put_word(line, at, b" spilt\n")
     }
-    put_word(line, at, b" spilt\n")
 }
 
 // What was written, whether more was touched, and the line's end.
+#[tactic(auto, using(spelling::proofs::TextLaws::put_more), unfolding(crate::specs::AnswerLine::end_text))]
 fn put_end(line: &mut [u8], at: usize, count: usize, out: &[u8]) -> usize
     ensures { (result, line.new) ≡ put_all (end_text count out.now) (at, line.old) }
 {
@@ -53,6 +50,7 @@ fn put_end(line: &mut [u8], at: usize, count: usize, out: &[u8]) -> usize
     put_spilt(line, to, count, out)
 }
 
+#[tactic(auto, using(spelling::proofs::TextLaws::put_more), unfolding(crate::specs::AnswerLine::head_text))]
 fn put_head(line: &mut [u8], name: &[u8], outcome: Outcome) -> usize
     ensures { (result, line.new) ≡ put_all (head_text name.now outcome) (0, line.old) }
 {
@@ -61,6 +59,7 @@ fn put_head(line: &mut [u8], name: &[u8], outcome: Outcome) -> usize
 }
 
 // A call that may raise an event; `len` is the length of a message's body.
+#[tactic(auto, using(spelling::proofs::TextLaws::put_more), unfolding(crate::specs::AnswerLine::answer_text))]
 pub fn put_answer(
     line: &mut [u8],
     name: &[u8],
@@ -80,6 +79,7 @@ pub fn put_answer(
     put_end(line, b, count, out)
 }
 
+#[tactic(auto, using(spelling::proofs::TextLaws::put_more), unfolding(crate::specs::AnswerLine::send_text))]
 pub fn put_sent(line: &mut [u8], name: &[u8], outcome: Outcome, count: usize, out: &[u8]) -> usize
     ensures { (result, line.new) ≡ put_all (send_text name.now outcome count out.now) (0, line.old) }
 {
@@ -88,15 +88,18 @@ pub fn put_sent(line: &mut [u8], name: &[u8], outcome: Outcome, count: usize, ou
 }
 
 // "ping=N is the number that a ping request hands back"
+#[tactic(auto, using(spelling::proofs::TextLaws::put_none), unfolding(crate::specs::AnswerLine::ping_text))]
 fn put_number(line: &mut [u8], at: usize, outcome: Outcome, timestamp: u32) -> usize
     ensures { (result, line.new) ≡ put_all (ping_text outcome timestamp) (at, line.old) }
 {
     if number_of(outcome) == 0 {
-        return put_field(line, at, b" ping=", timestamp as u64);
+        put_field(line, at, b" ping=", timestamp as u64)
+    } else {
+        at
     }
-    at
 }
 
+#[tactic(auto, using(spelling::proofs::TextLaws::put_more), unfolding(crate::specs::AnswerLine::ping_line))]
 pub fn put_ping(
     line: &mut [u8],
     outcome: Outcome,

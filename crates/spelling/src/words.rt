@@ -35,7 +35,7 @@ pub fn put_start(out: &mut [u8], at: usize, start: PlayStartValue) -> usize
     match start {
         PlayStartValue::LiveOrRecorded => put_word(out, at, b"live-or-recorded"),
         PlayStartValue::LiveOnly => put_word(out, at, b"live-only"),
-        PlayStartValue::StartTimeInSeconds(n) => put_decimal(out, at, n as u64),
+        PlayStartValue::StartTimeInSeconds(n) => put_decimal(out, at, u64::from(n)),
     }
 }
 
@@ -44,7 +44,7 @@ pub fn put_duration(out: &mut [u8], at: usize, duration: PlayDuration) -> usize
 {
     match duration {
         PlayDuration::Unlimited => put_word(out, at, b"none"),
-        PlayDuration::Seconds(n) => put_decimal(out, at, n as u64),
+        PlayDuration::Seconds(n) => put_decimal(out, at, u64::from(n)),
     }
 }
 
@@ -52,7 +52,8 @@ pub fn put_flag(out: &mut [u8], at: usize, flag: bool) -> usize
     ensures { (result, out.new) ≡ put_all (flag_text flag) (at, out.old) }
 {
     if flag {
-        return put_word(out, at, b"1");
+        put_word(out, at, b"1")
+    } else {
+        put_word(out, at, b"0")
     }
-    put_word(out, at, b"0")
 }

@@ -1,6 +1,6 @@
 -- A change made in the arrays leaves what is kept of the session after that change.
 use mathlib.Core.Path.{◌≡◌, refl, sym, ap, ◌∙◌}
-use Prim.Native.Nat.{ℕ, ◌+◌, ◌-◌, ◌%◌, ◌≤◌, ◌<◌}
+use Prim.Native.Nat.{ℕ, ◌-◌, ◌%◌, ◌≤◌, ◌<◌}
 use native.Mathlib.Nat.{mod-eq_of_lt}
 use native.Mathlib.Omega.{arith}
 use mathlib.Core.Bool.{true}
@@ -20,7 +20,8 @@ use Rattle.session.specs.declared.changes.Change.{Change}
 use Rattle.session.specs.declared.changes.Effect.{Effect}
 use Rattle.session.specs.declared.changes.Effect.TheVariants.{Nothing, StreamMade, StreamSet, StreamRemoved, RequestFiled, ConnectFiled, ConnectAccepted, StreamAccepted, RequestRemoved}
 use Rattle.session.specs.declared.session.Session.{Session}
-use Rattle.image.specs.Image.{Arrays, Shaped, cell, every, facts_readable, joined, keys_of, readable_at, request_of, request_readable, requests_at, session_at, sound_at, stream_of, stream_readable, streams_at, titles_of, used_requests, used_streams}
+use Rattle.std.specs.List.{list_all}
+use Rattle.image.specs.Image.{Arrays, Shaped, cell, facts_readable, joined, keys_of, readable_at, request_of, request_readable, requests_at, session_at, sound_at, stream_of, stream_readable, streams_at, titles_of, used_requests, used_streams}
 use Rattle.image.proofs.RowsLaws.{all_length, part_length, used_front}
 use Rattle.written.specs.Edits.{app_after, applied_at, edited, edited_by, facts_after, in_use, place_in, request_edit, request_place, row_id, stream_edit, stream_place}
 use Rattle.written.specs.Kept.{facts_of, kept_at, key_bytes, onto, request_row, requests_of, stream_row, streams_of, title_bytes}
@@ -52,8 +53,8 @@ module _ (facts : List ℕ) (streams requests names : List (List ℕ)) (shape : 
     app : cell facts 3 < 2
     next_stream_fits : cell facts 6 < 4294967296
     next_request_fits : cell facts 7 < 4294967296
-    stream_rows : every stream_readable (take n streams) ≡ true
-    request_rows : every request_readable (take m requests) ≡ true
+    stream_rows : list_all stream_readable (take n streams) ≡ true
+    request_rows : list_all request_readable (take m requests) ≡ true
     stream_count_fits : n ≤ 16
     request_count_fits : m ≤ 16
 
@@ -68,7 +69,7 @@ module _ (facts : List ℕ) (streams requests names : List (List ℕ)) (shape : 
   says =
       let d = both (readable_at facts streams requests) _ ok in
       let f = both (facts_readable facts) _ d.0 in
-      let r = both (every stream_readable (take n streams)) _ f.1 in
+      let r = both (list_all stream_readable (take n streams)) _ f.1 in
       let x = both (ltb (cell facts 2) 2) _ f.0 in
       let y = both (ltb (cell facts 3) 2) _ x.1 in
       let z = both (ltb (cell facts 6) 4294967296) _ y.1 in

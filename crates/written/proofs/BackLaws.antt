@@ -11,7 +11,8 @@ use borrow.Author.Tests.{ltb-true}
 use Rattle.numbers.specs.Choose.{pick}
 use Rattle.tables.proofs.SoundLaws.{both}
 use Rattle.image.specs.Cases.{flag_number, kind_number, kind_of, mode_number, mode_of, session_state, session_state_number, state_number, state_of}
-use Rattle.image.specs.Image.{Wide, cell, every, joined, request_of, request_readable, stream_of, stream_readable}
+use Rattle.std.specs.List.{list_all}
+use Rattle.image.specs.Image.{Wide, cell, joined, request_of, request_readable, stream_of, stream_readable}
 use Rattle.written.specs.Edits.{place_in, row_id}
 use Rattle.written.specs.Kept.{request_row, stream_row}
 
@@ -96,8 +97,8 @@ request_back row bytes e h =
 module _ {A : Type 0} (f : List ℕ → List ℕ → A) where
   pub rows_back :
       (row_of : A → List ℕ) (readable : List ℕ → Bool) (k : ℕ) → ((row bytes : List ℕ) → readable row ≡ true → length row ≡ k → row_of (f row bytes) ≡ row)
-      → (n : ℕ) (rows names : List (List ℕ)) → length rows ≡ length names → every readable (take n rows) ≡ true → Wide k rows → map row_of (take n (joined f rows names)) ≡ take n rows
-  unfolding every Wide joined
+      → (n : ℕ) (rows names : List (List ℕ)) → length rows ≡ length names → list_all readable (take n rows) ≡ true → Wide k rows → map row_of (take n (joined f rows names)) ≡ take n rows
+  unfolding Wide joined
   rows_back row_of readable k back zero rows names h e w = refl
   rows_back row_of readable k back (suc n) [] names h e w = refl
   rows_back row_of readable k back (suc n) (row ∷ rows) [] h e w = absurd (omega (arith, h))

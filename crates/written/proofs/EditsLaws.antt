@@ -1,16 +1,23 @@
 -- What the code does, step by step.
 use mathlib.Core.Path.{◌≡◌, refl, sym, ap, ◌∙◌}
 use mathlib.Core.Logic.{inl, inr}
-use Prim.Native.Nat.{ℕ, suc, ◌+◌, ◌≤◌, ◌<◌}
+use Prim.Native.Nat.{ℕ, suc, ◌+◌, ◌-◌, ◌≤◌, ◌<◌}
 use native.Mathlib.Omega.{arith}
+use mathlib.Core.Bool.{Bool, true, false, cond, not}
 use mathlib.Core.List.{List, [], ◌∷◌, ◌++◌, append_assoc, append-nil}
-use lib.ListN.{drop, drop_of_length-le, get_or, length, length-append, length-drop, length-set, set, take}
-use lib.Seq.{drop_at, length-take-le, set_out, take_at}
-use borrow.Author.Tests.{eq-eqb, le-ltb, lt-ltb, ne_eqb}
+use lib.Dec.{eqb, ltb}
+use lib.ListN.{drop, drop_of_length-le, get_or, length, length-append, length-drop, length-set, length-take, set, take}
+use lib.Seq.{drop-cons, drop_at, length-take-le, set_at, take_at}
+use borrow.Author.Tests.{le-ltb, lt-ltb, ltb-false}
+use Rattle.std.specs.List.{copy_within, position, position_or_len}
+use Rattle.std.specs.Option.{unwrap_or}
+use Rattle.std.specs.Prelude.{Option, Some, None}
+use Rattle.std.proofs.lemmas.List.{drop-take}
+use Rattle.std.proofs.lemmas.List.Sums.{prefix_len-le-length}
+use Rattle.numbers.specs.Choose.{pick}
 use Rattle.numbers.proofs.PatternLaws.{le_or_lt}
 use Rattle.tables.specs.Entries.{no_request, no_stream}
 use Rattle.tables.specs.Tables.{shifted}
-use Rattle.tables.proofs.TablesLaws.{next_entry, no_entry}
 use Rattle.session.specs.declared.changes.Change.{Change}
 use Rattle.image.specs.Image.{Arrays, cell, keys_of, titles_of}
 use Rattle.written.specs.Kept.{blank_bytes, key_bytes, request_row, stream_row, title_bytes}
@@ -18,33 +25,25 @@ use Rattle.written.specs.Edits.{app_after, applied_at, edited, edited_by, facts_
 use Rattle.written.specs.declared.edits.Edit.{Edit}
 use Rattle.written.specs.declared.edits.Edit.TheVariants.{Same, Add, Put, Cut}
 
--- what is said of a case is said of what is that case
-pub at_case : {A B : Type 0} (f : A → B) (x y : A) (r : B) → r ≡ f y → x ≡ y → r ≡ f x
-at_case f x y r e q = e ∙ ap f (sym q)
+-- ---- a search
+first_or_all : {A : Type 0} (number : A → ℕ) (id : ℕ) (l : List A) → position_or_len (λ x. eqb (number x) id) l ≡ place_in number id l
+unfolding place_in
+first_or_all number id [] = refl
+first_or_all number id (x ∷ l) = by_test (eqb (number x) id) (first_or_all number id l)
+  where
+    by_test : (b : Bool) → position_or_len (λ y. eqb (number y) id) l ≡ place_in number id l → cond (not b) (1 + position_or_len (λ y. eqb (number y) id) l) 0 ≡ pick b 0 (suc (place_in number id l))
+    by_test true e = refl
+    by_test false e = omega (arith, e)
 
--- ---- a search that stands at i
-module _ {A : Type 0} (number : A → ℕ) (id : ℕ) (l : List A) (n i r : ℕ) (so : i + place_in number id (drop i (take n l)) ≡ r) where
-  module _ (h : i < n) (g : n ≤ length l) (d : A) where
-    on : i + place_in number id (get_or l i d ∷ drop (i + 1) (take n l)) ≡ r
-    on = ap (λ (t : List A). i + place_in number id t) (sym (next_entry l n i d h g)) ∙ so
+found_or_all : {A : Type 0} (number : A → ℕ) (id : ℕ) (l : List A) → unwrap_or (position (λ x. eqb (number x) id) l) (length l) ≡ place_in number id l
+found_or_all number id l = by_test (ltb (position_or_len (λ x. eqb (number x) id) l) (length l)) refl
+  where
+    by_test : (b : Bool) → ltb (position_or_len (λ x. eqb (number x) id) l) (length l) ≡ b → unwrap_or (cond b (Some (position_or_len (λ x. eqb (number x) id) l)) None) (length l) ≡ place_in number id l
+    by_test true e = first_or_all number id l
+    by_test false e = omega (arith, ltb-false _ _ e, first_or_all number id l, prefix_len-le-length (λ x. not (eqb (number x) id)) l)
 
-    pub place_here : number (get_or l i d) ≡ id → i ≡ r
-    unfolding place_in
-    place_here e =
-        let z : place_in number id (get_or l i d ∷ drop (i + 1) (take n l)) ≡ 0 = simp (eq-eqb (number (get_or l i d)) id e) in
-        omega (arith, on, z)
-
-    pub place_next : (number (get_or l i d) ≡ id → ⊥) → i + 1 + place_in number id (drop (i + 1) (take n l)) ≡ r
-    unfolding place_in
-    place_next e =
-        let z : place_in number id (get_or l i d ∷ drop (i + 1) (take n l)) ≡ suc (place_in number id (drop (i + 1) (take n l))) = simp (ne_eqb (number (get_or l i d)) id e) in
-        omega (arith, on, z)
-
-  pub place_end : n ≤ i → i ≡ r
-  unfolding place_in
-  place_end h =
-      let z : place_in number id (drop i (take n l)) ≡ 0 = ap (place_in number id) (no_entry l n i h) in
-      omega (arith, so, z)
+pub place_is : {A : Type 0} (number : A → ℕ) (id : ℕ) (l : List A) (n : ℕ) → n ≡ length l → (r : Option ℕ) → r ≡ position (λ x. eqb (number x) id) l → unwrap_or r n ≡ place_in number id l
+place_is number id l n k r e = (λ i. unwrap_or (e i) (k i)) ∙ found_or_all number id l
 
 -- ---- an edit, by what the code found
 shifted_length : {A : Type 0} (y : A) (p n : ℕ) (l : List A) → p < n → n ≤ length l → length (shifted y p n l) ≡ length l
@@ -53,9 +52,6 @@ shifted_length y p n l h g =
     omega (arith, length-append (take p l) (drop (p + 1) (take n l) ++ y ∷ drop n l), length-append (drop (p + 1) (take n l)) (y ∷ drop n l), length-take-le p l (omega arith), length-take-le n l g, length-drop (p + 1) (take n l), length-drop n l)
 
 module _ {A : Type 0} (blank : A) (n : ℕ) (x : A) (l : List A) where
-  pub add_full : length l ≤ n → l ≡ set l n x
-  add_full h = sym (set_out l n x h)
-
   module _ (p : ℕ) where
     pub put_in : p < n → set l p x ≡ edited blank (Put p) n x l
     put_in h = simp (lt-ltb p n h)
@@ -68,6 +64,20 @@ module _ {A : Type 0} (blank : A) (n : ℕ) (x : A) (l : List A) where
 
     pub cut_out : n ≤ p → l ≡ edited blank (Cut p) n x l
     cut_out h = simp (le-ltb p n h)
+
+-- a removal by one copy
+pub shift_copied : {A : Type 0} (blank : A) (n : ℕ) (l : List A) (p : ℕ) → p < n → n ≤ length l → set (copy_within l (p + 1) n p) (n - 1) blank ≡ shifted blank p n l
+unfolding shifted
+shift_copied {A} blank n l p h g =
+    let j : ℕ = p + (n - (p + 1)) in
+    let moved : List A = take (n - (p + 1)) (drop (p + 1) l) in
+    let past : drop j l ≡ get_or l j blank ∷ drop n l = let z : suc j ≡ n = omega arith in drop-cons l j blank (omega arith) ∙ ap (λ (k : ℕ). get_or l j blank ∷ drop k l) z in
+    let size : length (take p l ++ moved) ≡ n - 1 = omega (arith, length-append (take p l) moved, length-take p l, length-take (n - (p + 1)) (drop (p + 1) l), length-drop (p + 1) l) in
+    let same : moved ≡ drop (p + 1) (take n l) = let z : p + 1 + (n - (p + 1)) ≡ n = omega arith in sym (drop-take (p + 1) (n - (p + 1)) l) ∙ ap (λ (k : ℕ). drop (p + 1) (take k l)) z in
+    ap (λ (t : List A). set ((take p l ++ moved) ++ t) (n - 1) blank) past
+    ∙ set_at (take p l ++ moved) (get_or l j blank) (drop n l) blank (n - 1) size
+    ∙ append_assoc (take p l) moved (blank ∷ drop n l)
+    ∙ ap (λ (t : List A). take p l ++ (t ++ blank ∷ drop n l)) same
 
 -- an edit keeps the length
 pub edited_length : {A : Type 0} (blank : A) (e : Edit) (n : ℕ) (x : A) (l : List A) → n ≤ length l → length (edited blank e n x l) ≡ length l

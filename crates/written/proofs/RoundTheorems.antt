@@ -23,7 +23,8 @@ use Rattle.session.specs.declared.session.Session.{Session}
 use Rattle.session.specs.declared.session.SessionState.{SessionState}
 use Rattle.session.specs.declared.session.SessionState.TheVariants.{Started, Connected}
 use Rattle.image.specs.Cases.{flag_number, kind_number, kind_of, mode_number, mode_of, session_state, session_state_number, state_number, state_of}
-use Rattle.image.specs.Image.{Arrays, cell, every, facts_readable, joined, keys_of, readable_at, request_of, request_readable, session_at, sound_at, stream_of, stream_readable, titles_of}
+use Rattle.std.specs.List.{list_all}
+use Rattle.image.specs.Image.{Arrays, cell, facts_readable, joined, keys_of, readable_at, request_of, request_readable, session_at, sound_at, stream_of, stream_readable, titles_of}
 use Rattle.image.proofs.RowsLaws.{part_length}
 use Rattle.written.specs.Kept.{kept_at, kept_over, key_bytes, onto, request_row, requests_of, stream_row, streams_of, title_bytes}
 use Rattle.written.proofs.ColumnLaws.{map_append}
@@ -117,8 +118,8 @@ module _ {A : Type 0} (f : List ℕ → List ℕ → A) (row_of bytes_of : A →
   entries_again [] us vs h = refl
   entries_again (x ∷ xs) us vs h = λ i. again x h.0 i ∷ entries_again xs us vs h.1 i
 
-  entries_readable : (xs : List A) (us : List (List ℕ)) → All fits xs → every readable (take (length xs) (map row_of xs ++ us)) ≡ true
-  unfolding every All
+  entries_readable : (xs : List A) (us : List (List ℕ)) → All fits xs → list_all readable (take (length xs) (map row_of xs ++ us)) ≡ true
+  unfolding All
   entries_readable [] us h = refl
   entries_readable (x ∷ xs) us h = simp (reads x h.0) (entries_readable xs us h.1)
 
@@ -232,10 +233,10 @@ module _ (n m : ℕ) (a : Arrays) (names : length a.1.1.1 ≡ 34) (s : Session) 
   all_readable : readable_at k.0 k.1.0 k.1.1.0 ≡ true
   unfolding readable_at facts_readable
   all_readable =
-      let x : every stream_readable (take i k.1.0) ≡ true =
-      (λ z. every stream_readable (take (sym tidy.stream_count_fits z) (stream_rows z))) ∙ entries_readable stream_of stream_row key_bytes stream_readable StreamFits stream_again stream_reads (streams_in s) _ typed.stream_numbers in
-      let y : every request_readable (take j k.1.1.0) ≡ true =
-      (λ z. every request_readable (take (sym tidy.request_count_fits z) (request_rows z))) ∙ entries_readable request_of request_row title_bytes request_readable RequestFits request_again request_reads (requests_in s) _ typed.request_numbers in
+      let x : list_all stream_readable (take i k.1.0) ≡ true =
+      (λ z. list_all stream_readable (take (sym tidy.stream_count_fits z) (stream_rows z))) ∙ entries_readable stream_of stream_row key_bytes stream_readable StreamFits stream_again stream_reads (streams_in s) _ typed.stream_numbers in
+      let y : list_all request_readable (take j k.1.1.0) ≡ true =
+      (λ z. list_all request_readable (take (sym tidy.request_count_fits z) (request_rows z))) ∙ entries_readable request_of request_row title_bytes request_readable RequestFits request_again request_reads (requests_in s) _ typed.request_numbers in
       simp (session_small s.state, flag_small s.has_app, lt-ltb s.next_stream 4294967296 typed.next_stream_fits, lt-ltb s.next_request 4294967296 typed.next_request_fits, x, y)
 
   over_sound : sound_at k.0 k.1.0 k.1.1.0 k.1.1.1 ≡ session_sound s

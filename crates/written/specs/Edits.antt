@@ -6,7 +6,7 @@ use Rattle.tables.specs.Tables.{shifted}
 use Rattle.session.specs.State.{following, one_more}
 use Rattle.session.specs.declared.changes.Change.{Change}
 use Rattle.session.specs.declared.changes.Effect.{Effect}
-use Rattle.session.specs.declared.changes.Effect.TheVariants.{Nothing, StreamMade, StreamSet, StreamRemoved, RequestFiled, ConnectFiled, ConnectAccepted, StreamAccepted, RequestRemoved}
+use Rattle.session.specs.declared.changes.Effect.TheVariants.{StreamMade, StreamSet, StreamRemoved, RequestFiled, ConnectFiled, ConnectAccepted, StreamAccepted, RequestRemoved}
 use Rattle.image.specs.Image.{Arrays, cell, keys_of, titles_of}
 use Rattle.written.specs.Kept.{blank_bytes, key_bytes, request_row, stream_row, title_bytes}
 use Rattle.written.specs.declared.edits.Edit.{Edit}
@@ -29,26 +29,19 @@ edited blank (Cut p) n x l = pick (ltb p n) (shifted blank p n l) l
 
 -- the edit of the streams, and of the requests; p is the place of the one in question
 abbrev pub stream_edit : Effect → ℕ → Edit
-stream_edit Nothing p = Same
 stream_edit StreamMade p = Add
 stream_edit StreamSet p = Put p
-stream_edit StreamRemoved p = Cut p
-stream_edit RequestFiled p = Same
-stream_edit (ConnectFiled encoding) p = Same
-stream_edit ConnectAccepted p = Same
 stream_edit StreamAccepted p = Put p
-stream_edit RequestRemoved p = Same
+stream_edit StreamRemoved p = Cut p
+stream_edit _ p = Same
 
 abbrev pub request_edit : Effect → ℕ → Edit
-request_edit Nothing p = Same
-request_edit StreamMade p = Same
-request_edit StreamSet p = Same
-request_edit StreamRemoved p = Same
 request_edit RequestFiled p = Add
 request_edit (ConnectFiled encoding) p = Add
 request_edit ConnectAccepted p = Cut p
 request_edit StreamAccepted p = Cut p
 request_edit RequestRemoved p = Cut p
+request_edit _ p = Same
 
 -- the facts; len is the length of the request's name
 abbrev pub one_stream_more : List ℕ → List ℕ
@@ -61,27 +54,19 @@ abbrev pub one_request_less : List ℕ → List ℕ
 one_request_less facts = set facts 9 (cell facts 9 - 1)
 
 abbrev pub facts_after : Effect → ℕ → List ℕ → List ℕ
-facts_after Nothing len facts = facts
 facts_after StreamMade len facts = one_stream_more facts
-facts_after StreamSet len facts = facts
 facts_after StreamRemoved len facts = set facts 8 (cell facts 8 - 1)
 facts_after RequestFiled len facts = one_request_more facts
 facts_after (ConnectFiled encoding) len facts = set (one_request_more facts) 5 encoding
 facts_after ConnectAccepted len facts = set (set (set (one_request_less facts) 2 1) 3 1) 4 len
 facts_after StreamAccepted len facts = one_request_less facts
 facts_after RequestRemoved len facts = one_request_less facts
+facts_after _ len facts = facts
 
 -- the app's bytes: those of the request's name, or those that stood there
 abbrev pub app_after : Effect → List ℕ → List ℕ → List ℕ
-app_after Nothing bytes old = old
-app_after StreamMade bytes old = old
-app_after StreamSet bytes old = old
-app_after StreamRemoved bytes old = old
-app_after RequestFiled bytes old = old
-app_after (ConnectFiled encoding) bytes old = old
 app_after ConnectAccepted bytes old = bytes
-app_after StreamAccepted bytes old = old
-app_after RequestRemoved bytes old = old
+app_after _ bytes old = old
 
 -- how many rows are in use, and the place of what a change is about
 abbrev pub in_use : ℕ → ℕ

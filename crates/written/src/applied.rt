@@ -5,43 +5,32 @@ ghost use Rattle.image.specs.Image.{keys_of, titles_of};
 ghost use Rattle.written.specs.Edits.{app_after, applied_at, edited, facts_after, names_after, one_request_less, one_request_more, one_stream_more, request_edit, stream_edit};
 ghost use Rattle.written.specs.Kept.{blank_bytes, request_row, stream_row};
 
-use crate::edits::{
-    Edit, edit_names, edit_requests, edit_streams, place_of_request, place_of_stream,
-};
-use image::{kind_number, mode_number, rows_in_use, state_number};
+use crate::edits::{Edit, make_edit, place_of};
+use image::{rows_in_use, short_number};
 use session::{Change, Effect, number_after, one_less, one_more};
 use tables::{Request, Stream};
 
 fn stream_row(stream: Stream) -> [u64; 4]
     ensures { result ≡ stream_row stream }
 {
-    let id = stream.id;
-    let key = stream.key;
-    let state = stream.state;
-    let mode = stream.mode;
     [
-        id.0 as u64,
-        state_number(state),
-        mode_number(mode),
-        key.len as u64,
+        stream.id.0 as u64,
+        stream.state as u64,
+        stream.mode as u64,
+        stream.key.len as u64,
     ]
 }
 
 fn request_row(request: Request) -> [u64; 6]
     ensures { result ≡ request_row request }
 {
-    let id = request.id;
-    let stream = request.stream;
-    let name = request.name;
-    let kind = request.kind;
-    let mode = request.mode;
     [
-        id.0 as u64,
-        kind_number(kind),
-        stream.0 as u64,
-        mode_number(mode),
+        request.id.0 as u64,
+        request.kind as u64,
+        request.stream.0 as u64,
+        request.mode as u64,
         request.transaction,
-        name.len as u64,
+        request.name.len as u64,
     ]
 }
 
@@ -49,15 +38,10 @@ fn stream_edit(effect: Effect, p: usize) -> Edit
     ensures { result ≡ stream_edit effect p }
 {
     match effect {
-        Effect::Nothing => Edit::Same,
         Effect::StreamMade => Edit::Add,
-        Effect::StreamSet => Edit::Put(p),
+        Effect::StreamSet | Effect::StreamAccepted => Edit::Put(p),
         Effect::StreamRemoved => Edit::Cut(p),
-        Effect::RequestFiled => Edit::Same,
-        Effect::ConnectFiled { encoding } => Edit::Same,
-        Effect::ConnectAccepted => Edit::Same,
-        Effect::StreamAccepted => Edit::Put(p),
-        Effect::RequestRemoved => Edit::Same,
+        _ => Edit::Same,
     }
 }
 
@@ -65,15 +49,9 @@ fn request_edit(effect: Effect, p: usize) -> Edit
     ensures { result ≡ request_edit effect p }
 {
     match effect {
-        Effect::Nothing => Edit::Same,
-        Effect::StreamMade => Edit::Same,
-        Effect::StreamSet => Edit::Same,
-        Effect::StreamRemoved => Edit::Same,
-        Effect::RequestFiled => Edit::Add,
-        Effect::ConnectFiled { encoding } => Edit::Add,
-        Effect::ConnectAccepted => Edit::Cut(p),
-        Effect::StreamAccepted => Edit::Cut(p),
-        Effect::RequestRemoved => Edit::Cut(p),
+        Effect::RequestFiled | Effect::ConnectFiled { .. } => Edit::Add,
+        Effect::ConnectAccepted | Effect::StreamAccepted | Effect::RequestRemoved => Edit::Cut(p),
+        _ => Edit::Same,
     }
 }
 
@@ -81,32 +59,27 @@ fn request_edit(effect: Effect, p: usize) -> Edit
 fn next_number(n: u64) -> u64
     ensures { result ≡ following (n % 4294967296) }
 {
-    number_after((n % 4294967296) as u32) as u64
+    number_after(short_number(n)) as u64
 }
 
 fn one_stream_more(facts: &mut [u64; 10])
     ensures { facts.new ≡ one_stream_more facts.old }
 {
-    let next = next_number(facts[6]);
-    let count = one_more(facts[8] as usize);
-    facts[6] = next;
-    facts[8] = count as u64;
+    facts[6] = next_number(facts[6]);
+    facts[8] = one_more(facts[8] as usize) as u64;
 }
 
 fn one_request_more(facts: &mut [u64; 10])
     ensures { facts.new ≡ one_request_more facts.old }
 {
-    let next = next_number(facts[7]);
-    let count = one_more(facts[9] as usize);
-    facts[7] = next;
-    facts[9] = count as u64;
+    facts[7] = next_number(facts[7]);
+    facts[9] = one_more(facts[9] as usize) as u64;
 }
 
 fn one_request_less(facts: &mut [u64; 10])
     ensures { facts.new ≡ one_request_less facts.old }
 {
-    let count = one_less(facts[9] as usize);
-    facts[9] = count as u64;
+    facts[9] = one_less(facts[9] as usize) as u64;
 }
 
 // `len` is the length of the request's name.
@@ -114,13 +87,9 @@ fn set_facts(facts: &mut [u64; 10], effect: Effect, len: usize)
     ensures { facts.new ≡ facts_after effect len facts.old }
 {
     match effect {
-        Effect::Nothing => {}
+        Effect::Nothing | Effect::StreamSet => {}
         Effect::StreamMade => one_stream_more(facts),
-        Effect::StreamSet => {}
-        Effect::StreamRemoved => {
-            let count = one_less(facts[8] as usize);
-            facts[8] = count as u64;
-        }
+        Effect::StreamRemoved => facts[8] = one_less(facts[8] as usize) as u64,
         Effect::RequestFiled => one_request_more(facts),
         Effect::ConnectFiled { encoding } => {
             one_request_more(facts);
@@ -132,8 +101,7 @@ fn set_facts(facts: &mut [u64; 10], effect: Effect, len: usize)
             facts[3] = 1;
             facts[4] = len as u64;
         }
-        Effect::StreamAccepted => one_request_less(facts),
-        Effect::RequestRemoved => one_request_less(facts),
+        Effect::StreamAccepted | Effect::RequestRemoved => one_request_less(facts),
     }
 }
 
@@ -142,18 +110,8 @@ fn set_app(names: &mut [[u8; 128]], effect: Effect, bytes: [u8; 128])
     requires { length names.old ≡ 34 }
     ensures { names.new ≡ set names.old 1 (app_after effect bytes (get_or names.old 1 [])) }
 {
-    match effect {
-        Effect::Nothing => {}
-        Effect::StreamMade => {}
-        Effect::StreamSet => {}
-        Effect::StreamRemoved => {}
-        Effect::RequestFiled => {}
-        Effect::ConnectFiled { encoding } => {}
-        Effect::ConnectAccepted => {
-            names[1] = bytes;
-        }
-        Effect::StreamAccepted => {}
-        Effect::RequestRemoved => {}
+    if matches!(effect, Effect::ConnectAccepted) {
+        names[1] = bytes;
     }
 }
 
@@ -170,8 +128,8 @@ fn edit_parts(
     requires { (length names.old ≡ 34) × ((n ≤ 16) × (m ≤ 16)) }
     ensures { names.new ≡ take 2 names.old ++ (edited blank_bytes e n key (keys_of names.old) ++ edited blank_bytes f m title (titles_of names.old)) }
 {
-    edit_names(&mut names[2..18], n, e, key);
-    edit_names(&mut names[18..34], m, f, title);
+    make_edit(&mut names[2..18], n, e, key, [0; 128]);
+    make_edit(&mut names[18..34], m, f, title, [0; 128]);
 }
 
 fn edit_all_names(
@@ -201,21 +159,24 @@ pub fn apply_in(
 )
     ensures { (facts.new, (streams.new, (requests.new, names.new))) ≡ applied_at (facts.old, (streams.old, (requests.old, names.old))) change }
 {
-    let effect = change.effect;
-    let stream = change.stream;
-    let request = change.request;
-    let id = stream.id;
-    let waiting = request.id;
-    let key = stream.key;
-    let title = request.name;
-    let key_bytes = key.bytes;
-    let title_bytes = title.bytes;
     let n = rows_in_use(facts[8]);
     let m = rows_in_use(facts[9]);
-    let e = stream_edit(effect, place_of_stream(streams, n, id.0));
-    let f = request_edit(effect, place_of_request(requests, m, waiting.0));
-    edit_streams(streams, n, e, stream_row(stream));
-    edit_requests(requests, m, f, request_row(request));
-    edit_all_names(names, n, e, m, f, effect, key_bytes, title_bytes);
-    set_facts(facts, effect, title.len);
+    let e = stream_edit(change.effect, place_of(&streams[..], n, change.stream.id.0));
+    let f = request_edit(
+        change.effect,
+        place_of(&requests[..], m, change.request.id.0),
+    );
+    make_edit(streams, n, e, stream_row(change.stream), [0; 4]);
+    make_edit(requests, m, f, request_row(change.request), [0; 6]);
+    edit_all_names(
+        names,
+        n,
+        e,
+        m,
+        f,
+        change.effect,
+        change.stream.key.bytes,
+        change.request.name.bytes,
+    );
+    set_facts(facts, change.effect, change.request.name.len);
 }

@@ -1,14 +1,10 @@
-use Rattle.spelling.proofs.TextLaws.{put_as, put_none, put_then}
-use Rattle.spelling.proofs.CaseLaws.{if_set, if_unset}
 use mathlib.Core.Path.{ap}
-use borrow.Author.Tests.{eq-eqb, ne_eqb}
+use borrow.Author.Tests.{ne_eqb}
+use Rattle.spelling.proofs.CaseLaws.{if_unset}
+use Rattle.spelling.proofs.TextLaws.{put_as, put_then}
 use Rattle.spelling.specs.Text.{hex_of}
 use Rattle.reports.specs.AnswerLine.{written_text}
 use Rattle.reports.proofs.answer_lines.put_written.Goals as goal
-
-pub returns-then-count-eq0 : goal.returns-then-count-eq0
-unfolding written_text
-returns-then-count-eq0 c = if_set _ _ _ _ _ (put_none _) (eq-eqb _ _ c.if-count-eq0.true)
 
 pub returns : goal.returns
 unfolding written_text

@@ -15,5 +15,5 @@ returns c =
     let a = c.args in
     let k = length-take-le 16 (drop 2 a.names.now) (omega (arith, length-drop 2 a.names.now)) in
     let l : length (edited blank_bytes a.e a.n a.key (keys_of a.names.now)) ≡ 16 = edited_length blank_bytes a.e a.n a.key (keys_of a.names.now) (omega (arith, k)) ∙ k in
-    let q = ap (λ (t : List (List ℕ)). take 2 a.names.now ++ (t ++ drop 16 (drop 2 a.names.now))) c.edit_names.ensures in
-    parts_edited (edited blank_bytes a.e a.n a.key (keys_of a.names.now)) l a.names.now (omega arith) _ q _ _ (c.edit_names-2.ensures ∙ ap (edited blank_bytes a.f a.m a.title) (titles_between (edited blank_bytes a.e a.n a.key (keys_of a.names.now)) l a.names.now (omega arith) _ q))
+    let q = ap (λ (t : List (List ℕ)). take 2 a.names.now ++ (t ++ drop 16 (drop 2 a.names.now))) c.make_edit.ensures in
+    parts_edited (edited blank_bytes a.e a.n a.key (keys_of a.names.now)) l a.names.now (omega arith) _ q _ _ (c.make_edit-2.ensures ∙ ap (edited blank_bytes a.f a.m a.title) (titles_between (edited blank_bytes a.e a.n a.key (keys_of a.names.now)) l a.names.now (omega arith) _ q))
