@@ -31,7 +31,7 @@ request_of row bytes =
     }
 
 -- row by row, each with its name
-unfoldable pub joined : {A : Type 0} → (List ℕ → List ℕ → A) → List (List ℕ) → List (List ℕ) → List A
+unfoldable pub joined : {R A : Type 0} → (R → List ℕ → A) → List R → List (List ℕ) → List A
 joined f [] names = []
 joined f (r ∷ rows) [] = []
 joined f (r ∷ rows) (n ∷ names) = f r n ∷ joined f rows names

@@ -1,14 +1,14 @@
 // From the arrays to a session.
-ghost use Rattle.std.specs.Prelude.{◌≡◌, ◌%◌, ◌≤◌, min, length};
-ghost use Rattle.tables.specs.Entries.{found_request, found_stream, request_number, stream_number};
+ghost use Rattle.std.specs.Prelude.{◌≡◌, ◌-◌, ◌++◌, length, min, replicate, take};
+ghost use Rattle.tables.specs.Entries.{request_number, stream_number};
 ghost use Rattle.tables.specs.Tables.{look};
 ghost use Rattle.session.specs.State.{session_sound};
-ghost use Rattle.image.specs.Image.{request_of, requests_at, session_at, stream_of, streams_at, used_requests, used_streams};
+ghost use Rattle.image.specs.Image.{joined, session_at, used_requests, used_streams};
 
-use crate::cases::{kind_of, mode_of, session_state, state_of};
-use crate::rows::short_number;
+use crate::cases::session_state;
+use crate::rows::{Row, place, short_number};
 use session::{Session, session_sound};
-use tables::{Request, RequestFound, Stream, StreamFound, no_request, no_stream};
+use tables::{Entry, Request, Stream};
 use text::{Name, RequestId, StreamId};
 
 // How many of the sixteen places a count takes.
@@ -18,78 +18,29 @@ pub fn rows_in_use(count: u64) -> usize
     if count < 16 { count as usize } else { 16 }
 }
 
-fn read_stream(row: [u64; 4], bytes: [u8; 128]) -> Stream
-    ensures { result ≡ stream_of row bytes }
+// The rows in use, with their names; the places behind them are blank.
+fn entries<R: Row>(rows: &[R], names: &[[u8; 128]], count: u64) -> [R::Entry; 16]
+    requires { (length rows.now ≡ 16) × (length names.now ≡ 16) }
+    ensures { result ≡ take count (joined R.entry rows.now names.now) ++ replicate (16 - count) R.Entry.blank }
 {
-    let id = StreamId(short_number(row[0]));
-    let state = state_of(row[1]);
-    let mode = mode_of(row[2]);
-    let len = row[3] as usize;
-    Stream {
-        id,
-        state,
-        mode,
-        key: Name { bytes, len },
+    let mut all = [R::Entry::blank(); 16];
+    for i in 0..rows_in_use(count) {
+        all[i] = rows[i].entry(names[i]);
     }
+    all
 }
 
-fn read_request(row: [u64; 6], bytes: [u8; 128]) -> Request
-    ensures { result ≡ request_of row bytes }
+// The entry of a number among the rows in use, without the others.
+fn entry_of<R: Row>(rows: &[R], names: &[[u8; 128]], count: u64, number: u32) -> Option<R::Entry>
+    requires { (length rows.now ≡ 16) × (length names.now ≡ 16) }
+    ensures { result ≡ look R.Entry.number number (take count (joined R.entry rows.now names.now)) }
 {
-    let id = RequestId(short_number(row[0]));
-    let kind = kind_of(row[1]);
-    let stream = StreamId(short_number(row[2]));
-    let mode = mode_of(row[3]);
-    let transaction = row[4];
-    let len = row[5] as usize;
-    Request {
-        id,
-        kind,
-        stream,
-        mode,
-        transaction,
-        name: Name { bytes, len },
-    }
-}
-
-// The rows in use; the places behind them are blank.
-fn read_streams(rows: &[[u64; 4]], names: &[[u8; 128]], count: u64) -> [Stream; 16]
-    requires { (length rows.now ≡ 16) × (length names.now ≡ 34) }
-    ensures { result ≡ streams_at count rows.now names.now }
-{
-    let n = rows_in_use(count);
-    let blank = no_stream();
-    let mut t = [blank; 16];
-    let mut i: usize = 0;
-    while i < n {
-        let row = rows[i];
-        let bytes = names[2 + i];
-        let e = read_stream(row, bytes);
-        t[i] = e;
-        i += 1;
-    }
-    t
-}
-
-fn read_requests(rows: &[[u64; 6]], names: &[[u8; 128]], count: u64) -> [Request; 16]
-    requires { (length rows.now ≡ 16) × (length names.now ≡ 34) }
-    ensures { result ≡ requests_at count rows.now names.now }
-{
-    let n = rows_in_use(count);
-    let blank = no_request();
-    let mut t = [blank; 16];
-    let mut i: usize = 0;
-    while i < n {
-        let row = rows[i];
-        let bytes = names[18 + i];
-        let e = read_request(row, bytes);
-        t[i] = e;
-        i += 1;
-    }
-    t
+    let p = place(rows, count as usize, number)?;
+    Some(rows[p].entry(names[p]))
 }
 
 // All of a session, which only the slow way of `image_sound` needs.
+#[tactic(auto, unfolding(crate::specs::Image::session_at))]
 fn read_among(
     facts: &[u64; 10],
     streams: &[[u64; 4]],
@@ -99,37 +50,25 @@ fn read_among(
     requires { (length streams.now ≡ 16) × ((length requests.now ≡ 16) × (length names.now ≡ 34)) }
     ensures { result ≡ session_at facts.now streams.now requests.now names.now }
 {
-    let version = names[0];
-    let app = names[1];
-    let version_len = facts[1] as usize;
-    let state = session_state(facts[2]);
-    let has_app = facts[3] == 1;
-    let app_len = facts[4] as usize;
-    let next_stream = short_number(facts[6]);
-    let next_request = short_number(facts[7]);
-    let stream_count = facts[8] as usize;
-    let request_count = facts[9] as usize;
-    let stream_table = read_streams(streams, names, facts[8]);
-    let request_table = read_requests(requests, names, facts[9]);
     Session {
         start: facts[0],
         version: Name {
-            bytes: version,
-            len: version_len,
+            bytes: names[0],
+            len: facts[1] as usize,
         },
-        state,
-        has_app,
+        state: session_state(facts[2]),
+        has_app: facts[3] == 1,
         app: Name {
-            bytes: app,
-            len: app_len,
+            bytes: names[1],
+            len: facts[4] as usize,
         },
         encoding: facts[5],
-        next_stream,
-        next_request,
-        stream_count,
-        request_count,
-        streams: stream_table,
-        requests: request_table,
+        next_stream: short_number(facts[6]),
+        next_request: short_number(facts[7]),
+        stream_count: facts[8] as usize,
+        request_count: facts[9] as usize,
+        streams: entries(streams, &names[2..18], facts[8]),
+        requests: entries(requests, &names[18..34], facts[9]),
     }
 }
 
@@ -142,70 +81,19 @@ pub fn read_sound(
 ) -> bool
     ensures { result ≡ session_sound (session_at facts.now streams.now requests.now names.now) }
 {
-    let session = read_among(facts, streams, requests, names);
-    session_sound(session)
+    session_sound(read_among(facts, streams, requests, names))
 }
 
-fn find_among(rows: &[[u64; 4]], names: &[[u8; 128]], n: usize, id: StreamId) -> StreamFound
-    requires { (n ≤ 16) × ((length rows.now ≡ 16) × (length names.now ≡ 34)) }
-    ensures { result ≡ found_stream (look stream_number id.0 (used_streams n rows.now names.now)) }
-{
-    let want = id.0;
-    let mut i: usize = 0;
-    while i < n {
-        let row = rows[i];
-        if short_number(row[0]) == want {
-            let bytes = names[2 + i];
-            let stream = read_stream(row, bytes);
-            return StreamFound {
-                found: true,
-                stream,
-            };
-        }
-        i += 1;
-    }
-    let stream = no_stream();
-    StreamFound {
-        found: false,
-        stream,
-    }
-}
-
-fn find_waiting(rows: &[[u64; 6]], names: &[[u8; 128]], n: usize, id: RequestId) -> RequestFound
-    requires { (n ≤ 16) × ((length rows.now ≡ 16) × (length names.now ≡ 34)) }
-    ensures { result ≡ found_request (look request_number id.0 (used_requests n rows.now names.now)) }
-{
-    let want = id.0;
-    let mut i: usize = 0;
-    while i < n {
-        let row = rows[i];
-        if short_number(row[0]) == want {
-            let bytes = names[18 + i];
-            let request = read_request(row, bytes);
-            return RequestFound {
-                found: true,
-                request,
-            };
-        }
-        i += 1;
-    }
-    let request = no_request();
-    RequestFound {
-        found: false,
-        request,
-    }
-}
-
-// The stream of a number among those in use, without the others.
+// The stream of a number.
 pub fn find_row(
     streams: &[[u64; 4]; 16],
     names: &[[u8; 128]; 34],
     count: u64,
     id: StreamId,
-) -> StreamFound
-    ensures { result ≡ found_stream (look stream_number id.0 (used_streams count streams.now names.now)) }
+) -> Option<Stream>
+    ensures { result ≡ look stream_number id.0 (used_streams count streams.now names.now) }
 {
-    find_among(streams, names, rows_in_use(count), id)
+    entry_of(&streams[..], &names[2..18], count, id.0)
 }
 
 // The waiting request of a number.
@@ -214,8 +102,8 @@ pub fn find_request_row(
     names: &[[u8; 128]; 34],
     count: u64,
     id: RequestId,
-) -> RequestFound
-    ensures { result ≡ found_request (look request_number id.0 (used_requests count requests.now names.now)) }
+) -> Option<Request>
+    ensures { result ≡ look request_number id.0 (used_requests count requests.now names.now) }
 {
-    find_waiting(requests, names, rows_in_use(count), id)
+    entry_of(&requests[..], &names[18..34], count, id.0)
 }
