@@ -4,15 +4,14 @@ use mathlib.Core.Logic.{◌⊎◌, inl, inr}
 use Prim.Native.Nat.{ℕ, zero, suc, ◌+◌, ◌-◌, ◌≤◌, ◌<◌, max, min}
 use native.Mathlib.Omega.{arith}
 use mathlib.Core.List.{List, [], ◌∷◌, ◌++◌, map, append_assoc}
-use mathlib.Core.Option.{none}
+use Rattle.std.specs.Prelude.{None}
 use lib.ListN.{get_or-append, drop, get_or, length, length-append, length-drop, length-map, length-replicate, length-set, replicate, set, take, take-append-drop}
 use lib.Seq.{append_snoc, drop_at, length-take-le, set-append_left, set_at, set_out, set_split, take-append-add, take-append-le, take_at, take-set-lt, take-take}
 use borrow.Author.Tests.{le-leb, lt-leb}
 use Rattle.numbers.proofs.ChooseLaws.{pick_eq}
 use Rattle.numbers.proofs.PatternLaws.{le_or_lt}
-use Rattle.tables.specs.Tables.{Stands, changed, look, removed, shifted}
-use Rattle.tables.specs.declared.places.Place.TheVariants.{At}
-use Rattle.tables.proofs.TablesLaws.{changed_at, changed_missing, look_no, removed_at, removed_missing}
+use Rattle.tables.specs.Tables.{changed, look, removed, shifted}
+use Rattle.tables.proofs.TablesLaws.{Stands, changed_at, changed_missing, look_no, removed_at, removed_missing}
 use Rattle.session.specs.State.{one_more}
 use Rattle.written.specs.Edits.{edited, place_in}
 use Rattle.written.specs.Kept.{onto}
@@ -22,10 +21,10 @@ use Rattle.written.proofs.EditsLaws.{cut_in, cut_out, put_in, put_out}
 -- ---- the place of a number
 module _ {A : Type 0} (number : A → ℕ) (id : ℕ) where
   abbrev Found : List A → ℕ → Type 0
-  Found l p = (p < length l) × ((look number id (take p l) ≡ none) × ((d : A) → number (get_or l p d) ≡ id))
+  Found l p = (p < length l) × ((look number id (take p l) ≡ None) × ((d : A) → number (get_or l p d) ≡ id))
 
   abbrev Lost : List A → ℕ → Type 0
-  Lost l p = (p ≡ length l) × (look number id l ≡ none)
+  Lost l p = (p ≡ length l) × (look number id l ≡ None)
 
   place_cases : (l : List A) → Found l (place_in number id l) ⊎ Lost l (place_in number id l)
   unfolding place_in look
@@ -115,11 +114,11 @@ module _ {A B : Type 0} (g : A → B) (blank : A) (t : List A) (l : List B) (n :
   ])
 
   module _ (number : A → ℕ) where
-    stands : (id p : ℕ) (d : A) → Found number id t p → Stands number id n whole d (At p)
+    stands : (id p : ℕ) (d : A) → Found number id t p → Stands number id n whole d p
     stands id p d f =
         (omega (arith, f.0, ht), (ap (look number id) (take-append-le p t (replicate (16 - n) blank) (omega (arith, f.0))) ∙ f.1.0, ap number (get_or-append t (replicate (16 - n) blank) d p f.0) ∙ f.1.1 d))
 
-    lost : (id p : ℕ) → Lost number id t p → look number id (take n whole) ≡ none
+    lost : (id p : ℕ) → Lost number id t p → look number id (take n whole) ≡ None
     lost id p f = ap (look number id) front ∙ f.1
 
     -- ---- another one in its place

@@ -4,7 +4,7 @@ use mathlib.Core.Logic.{inl, inr}
 use Prim.Native.Nat.{ℕ, suc, ◌+◌, ◌-◌, ◌≤◌}
 use native.Mathlib.Omega.{arith}
 use mathlib.Core.List.{List, [], ◌∷◌, ◌++◌}
-use mathlib.Core.Option.{some}
+use Rattle.std.specs.Prelude.{Some}
 use lib.ListN.{drop, length, length-append, length-replicate, replicate, set, take}
 use lib.Seq.{append_snoc, drop_at, set_at, set_out, take_at}
 use borrow.Author.Tests.{le-leb, lt-leb}
@@ -36,7 +36,7 @@ module _ {A : Type 0} (number : A → ℕ) where
   change_length y [] = refl
   change_length y (x ∷ l) = pick_eq (λ (t : List A). length t ≡ suc (length l)) (y ∷ l) (x ∷ change number y l) (number x) (number y) (λ e. refl) (λ e. ap suc (change_length y l))
 
-  remove_length : (id : ℕ) (l : List A) (x : A) → look number id l ≡ some x → suc (length (remove number id l)) ≡ length l
+  remove_length : (id : ℕ) (l : List A) (x : A) → look number id l ≡ Some x → suc (length (remove number id l)) ≡ length l
   unfolding look remove
   remove_length id [] x e = let z : ◌≡◌ {A = ℕ} 0 1 = cc in absurd (omega arith)
   remove_length id (y ∷ l) x e =
@@ -61,7 +61,7 @@ module _ {A : Type 0} (blank : A) (n : ℕ) (l : List A) where
     table_put number y =
         table_of_any blank n (changed number y n l) (change number y (take n l)) (change_length number y (take n l) ∙ h.used) h.places (ap (λ (t : List A). change number y (take n l) ++ t) behind)
 
-    table_cut : (number : A → ℕ) (id : ℕ) (x : A) → look number id (take n l) ≡ some x → Table blank (n - 1) (removed number blank id n l)
+    table_cut : (number : A → ℕ) (id : ℕ) (x : A) → look number id (take n l) ≡ Some x → Table blank (n - 1) (removed number blank id n l)
     unfolding removed
     table_cut number id x e =
         let k = remove_length number id (take n l) x e in
@@ -108,12 +108,12 @@ abbrev pub There : Effect → Session → Stream → Request → Type 0
 There Nothing s e r = Unit
 There StreamMade s e r = Unit
 There StreamSet s e r = Unit
-There StreamRemoved s e r = (x : Stream) × stream_of s e.id.0 ≡ some x
+There StreamRemoved s e r = (x : Stream) × stream_of s e.id.0 ≡ Some x
 There RequestFiled s e r = Unit
 There (ConnectFiled encoding) s e r = Unit
-There ConnectAccepted s e r = (x : Request) × request_of s r.id.0 ≡ some x
-There StreamAccepted s e r = (x : Request) × request_of s r.id.0 ≡ some x
-There RequestRemoved s e r = (x : Request) × request_of s r.id.0 ≡ some x
+There ConnectAccepted s e r = (x : Request) × request_of s r.id.0 ≡ Some x
+There StreamAccepted s e r = (x : Request) × request_of s r.id.0 ≡ Some x
+There RequestRemoved s e r = (x : Request) × request_of s r.id.0 ≡ Some x
 
 tidy_by : (effect : Effect) (s : Session) (e : Stream) (r : Request) → Tidy s → There effect s e r → Tidy (applied_by effect s e r)
 unfolding with_stream with_changed without_stream with_request without_request

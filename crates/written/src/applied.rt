@@ -7,7 +7,7 @@ ghost use Rattle.written.specs.Kept.{blank_bytes, request_row, stream_row};
 
 use crate::edits::{Edit, make_edit, place_of};
 use image::{rows_in_use, short_number};
-use session::{Change, Effect, number_after, one_less, one_more};
+use session::{Change, Effect, number_after, one_more};
 use tables::{Request, Stream};
 
 fn stream_row(stream: Stream) -> [u64; 4]
@@ -79,7 +79,7 @@ fn one_request_more(facts: &mut [u64; 10])
 fn one_request_less(facts: &mut [u64; 10])
     ensures { facts.new ≡ one_request_less facts.old }
 {
-    facts[9] = one_less(facts[9] as usize) as u64;
+    facts[9] = facts[9].saturating_sub(1);
 }
 
 // `len` is the length of the request's name.
@@ -89,7 +89,7 @@ fn set_facts(facts: &mut [u64; 10], effect: Effect, len: usize)
     match effect {
         Effect::Nothing | Effect::StreamSet => {}
         Effect::StreamMade => one_stream_more(facts),
-        Effect::StreamRemoved => facts[8] = one_less(facts[8] as usize) as u64,
+        Effect::StreamRemoved => facts[8] = facts[8].saturating_sub(1),
         Effect::RequestFiled => one_request_more(facts),
         Effect::ConnectFiled { encoding } => {
             one_request_more(facts);
