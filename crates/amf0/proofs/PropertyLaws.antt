@@ -8,9 +8,11 @@ use lib.ListN.{length, take, drop}
 use Rattle.std.specs.Prelude.{Option, Some, None, option_map, Result, Ok, Err}
 use Rattle.std.specs.Result.{result_ok}
 use Rattle.text.specs.Words.{same}
-use Rattle.amf0.specs.Properties.{better, last, last_f, on_pair, pair_at, pair_of}
+use Rattle.amf0.specs.Properties.{better, inside, last, last_f, last_property, on_pair, pair_at, pair_of}
+use Rattle.amf0.specs.Reading.{extent_at}
 use Rattle.amf0.specs.Skipping.{Skip, skip_v}
 use Rattle.amf0.specs.declared.error.BodyError.{BodyError}
+use Rattle.amf0.specs.declared.value.Extent.{Extent}
 use Rattle.amf0.specs.declared.value.NameAt.{NameAt}
 use Rattle.amf0.proofs.ReadingLaws.{name_cut}
 use Rattle.amf0.proofs.SkippingLaws.{Lands, Moves, Past, moves, name_cases}
@@ -71,6 +73,11 @@ module _ (s w : List ℕ) (i at : ℕ) (best first : Option ℕ) (so : last s w 
     pub last_other : same (take (v - (i + 2)) (drop (i + 2) s)) w ≡ false → last s w a best ≡ last s w at first
     unfolding better
     last_other q = simp q at last_pair
+
+-- ---- in a value
+pub property_in : (s : List ℕ) (at : ℕ) (w : List ℕ) (x : Result Extent BodyError) (r : Option ℕ) → r ≡ inside x (λ p. last s w p None) → extent_at s at ≡ x → r ≡ last_property s at w
+unfolding last_property
+property_in s at w x r e f = e ∙ ap (λ (y : Result Extent BodyError). inside y (λ p. last s w p None)) (sym f)
 
 -- what `last_pair` cites
 pub ruleset lasts = (pair_past, last_end, last_named, last_other)

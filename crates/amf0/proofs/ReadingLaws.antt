@@ -1,5 +1,5 @@
 -- The cases of what stands at a place, each from the tests that lead to it; and what can stand there at all.
-use mathlib.Core.Path.{◌≡◌, sym, ap, subst}
+use mathlib.Core.Path.{◌≡◌, sym, ap, ◌∙◌, subst}
 use Prim.Native.Nat.{ℕ, ◌+◌, ◌≤◌, ◌<◌}
 use native.Mathlib.Omega.{arith}
 use mathlib.Core.Bool.{not}
@@ -48,6 +48,25 @@ held_yes s p n v h = ap (option_map (λ (q : ℕ). record { value = v; next = q 
 pub text_in : (w : ℕ) (made : ℕ → ℕ → Amf0Value) (s : List ℕ) (p : ℕ) → p + w ≤ length s → held s (p + w) (field_at w s p) (made (p + w) (field_at w s p)) ≡ text_at w made s p
 text_in w made s p h = ap (option_and_then (λ (q : ℕ). held s q (field_at w s p) (made q (field_at w s p)))) (past_yes s p w h)
 
+-- ---- no marker of the list
+pub record Other (m : ℕ) : Type 0 where
+  pub n0 : m ≡ 0 → ⊥
+  pub n1 : m ≡ 1 → ⊥
+  pub n2 : m ≡ 2 → ⊥
+  pub n3 : m ≡ 3 → ⊥
+  pub n5 : m ≡ 5 → ⊥
+  pub n6 : m ≡ 6 → ⊥
+  pub n8 : m ≡ 8 → ⊥
+  pub n10 : m ≡ 10 → ⊥
+  pub n11 : m ≡ 11 → ⊥
+  pub n12 : m ≡ 12 → ⊥
+
+pub other_marker : (s : List ℕ) (p m : ℕ) (r : Option Read) → r ≡ None → Other m → r ≡ by_marker s p m
+unfolding by_marker
+other_marker s p m r e o =
+    e
+    ∙ simp (ne_eqb m 0 o.n0, ne_eqb m 1 o.n1, ne_eqb m 2 o.n2, ne_eqb m 3 o.n3, ne_eqb m 5 o.n5, ne_eqb m 6 o.n6, ne_eqb m 8 o.n8, ne_eqb m 10 o.n10, ne_eqb m 11 o.n11, ne_eqb m 12 o.n12)
+
 -- ---- at a place
 module _ (s : List ℕ) (at : ℕ) where
   pub read_in : at < length s → by_marker s (at + 1) (get_or s at 0) ≡ read_at s at
@@ -67,6 +86,20 @@ module _ (s : List ℕ) (i : ℕ) where
   pub name_cut : length s < i + 2 → Err NotAmf0 ≡ name_at s i
   unfolding name_at
   name_cut h = simp (← past_no s i 2 h)
+
+  pub name_bare : field_at 2 s i ≡ 0 → i + 2 ≡ length s → Err NotAmf0 ≡ name_at s i
+  unfolding name_at
+  name_bare e h =
+      let a : i + 2 ≤ length s = omega arith in
+      let b : length s < i + 2 + 1 = omega arith in
+      simp (← past_yes s i 2 a, ← past_no s (i + 2) 1 b, e)
+
+  pub name_odd : field_at 2 s i ≡ 0 → i + 2 < length s → (get_or s (i + 2) 0 ≡ 9 → ⊥) → Err NotAmf0 ≡ name_at s i
+  unfolding name_at
+  name_odd e h m =
+      let a : i + 2 ≤ length s = omega arith in
+      let b : i + 2 + 1 ≤ length s = omega arith in
+      simp (← past_yes s i 2 a, ← past_yes s (i + 2) 1 b, e, ne_eqb (get_or s (i + 2) 0) 9 m)
 
   pub name_end : field_at 2 s i ≡ 0 → i + 2 < length s → get_or s (i + 2) 0 ≡ 9 → Ok (End (i + 3)) ≡ name_at s i
   unfolding name_at

@@ -18,7 +18,7 @@ use Rattle.amf0.specs.declared.value.Extent.{Extent}
 use Rattle.amf0.specs.declared.value.Extent.TheVariants.{Ends, Pairs, CountedPairs, Values}
 use Rattle.amf0.specs.declared.value.NameAt.{NameAt}
 use Rattle.amf0.specs.declared.value.NameAt.TheVariants.{End, Value}
-use Rattle.amf0.proofs.ReadingLaws.{extent_read, name_cut, name_kinds, past_kinds, read_end, read_kinds}
+use Rattle.amf0.proofs.ReadingLaws.{extent_read, name_cut, name_kinds, past_kinds, past_no, read_end, read_kinds}
 
 -- a place past i and within s
 abbrev pub Past : List ℕ → ℕ → ℕ → Type 0
@@ -231,6 +231,14 @@ skip_wrong s (suc l) at b e = sym (ap (opened (skip_v s l) s) e)
 -- past the body's end stands no value
 pub skip_past : (s : List ℕ) (left at : ℕ) → length s ≤ at → Err NotAmf0 ≡ skip_v s left at
 skip_past s left at h = skip_wrong s left at NotAmf0 (sym (extent_read s at None (read_end s at h)))
+
+-- a count that is cut
+module _ (s : List ℕ) (left at p : ℕ) (z : left ≡ 0 → ⊥) where
+  pub skip_array_cut : extent_at s at ≡ Ok (CountedPairs p) → length s < p + 4 → Err NotAmf0 ≡ skip_v s left at
+  skip_array_cut e h = ap (λ (o : Option ℕ). within o (pairs (skip_v s (left - 1)) s)) (past_no s p 4 h) ∙ skip_open s left at (Ok (CountedPairs p)) e z
+
+  pub skip_strict_cut : extent_at s at ≡ Ok (Values p) → length s < p + 4 → Err NotAmf0 ≡ skip_v s left at
+  skip_strict_cut e h = ap (λ (o : Option ℕ). within o (values_f (skip_v s (left - 1)) (field_at 4 s p))) (past_no s p 4 h) ∙ skip_open s left at (Ok (Values p)) e z
 
 -- what the three functions that skip cite
 pub ruleset skips = (next_name, pairs_cut, pairs_end, pairs_fault, pairs_next, values_on, values_fault, skip_open, skip_deep, skip_ends, skip_wrong)

@@ -1,5 +1,4 @@
 pub mod StartsLaws
-pub mod ApplicationLaws
 pub mod DeterminedTheorems
 pub mod RefusalTheorems
 pub mod SoundTheorems

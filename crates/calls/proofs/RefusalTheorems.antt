@@ -1,7 +1,6 @@
 -- "Every refusal leaves session and out buffer unchanged and raises nothing; only 11 from an accept removes the request. .. With 0, bytes past the written count stay as they were."
 use mathlib.Core.Path.{◌≡◌, refl, sym, ap, ◌∙◌}
 use Prim.Native.Nat.{ℕ}
-use native.Mathlib.Omega.{arith}
 use mathlib.Core.Bool.{Bool, true, false}
 use mathlib.Core.List.{List, []}
 use lib.Dec.{eqb, ltb}
@@ -12,20 +11,20 @@ use Rattle.numbers.specs.Fields.{front}
 use Rattle.text.specs.declared.ids.RequestId.{RequestId}
 use Rattle.text.specs.declared.ids.StreamId.{StreamId}
 use Rattle.text.specs.Names.{name_of}
+use Rattle.text.specs.declared.names.Name.{Name}
 use Rattle.record.specs.Clock.{time_of}
 use Rattle.record.specs.Records.{start_records}
-use Rattle.metadata.specs.Metadata.{no_metadata}
-use Rattle.answers.specs.Sending.{all_sent, no_room, sent}
-use Rattle.answers.specs.declared.sent.Sent.{Sent}
+use Rattle.answers.specs.Sending.{sent}
+use Rattle.std.specs.Prelude.{Option, Some, None, Result, Ok, Err}
 use Rattle.wishes.specs.Commands.{command_wish}
 use Rattle.wishes.specs.Control.{control_wish}
 use Rattle.wishes.specs.DataFrame.{data_wish}
 use Rattle.wishes.specs.declared.outcome.Action.{Action}
-use Rattle.wishes.specs.declared.outcome.Outcome.{Outcome}
-use Rattle.wishes.specs.declared.outcome.Outcome.TheVariants.{BadConfig, BadSession, Done, NoRoom, WrongStream}
+use Rattle.wishes.specs.declared.outcome.Refusal.{Refusal}
+use Rattle.wishes.specs.declared.outcome.Refusal.TheVariants.{BadConfig, BadSession, NoRoom, WrongStream}
 use Rattle.session.specs.Changes.{applied, dropping}
 use Rattle.session.specs.Decisions.{refusing, refusing_with}
-use Rattle.session.specs.State.{fresh_session, request_at, session_sound, stream_at, without_request}
+use Rattle.session.specs.State.{request_at, session_sound, stream_at, without_request}
 use Rattle.session.specs.declared.changes.Change.{Change}
 use Rattle.session.specs.declared.decision.Decision.{Decision}
 use Rattle.session.specs.declared.decision.Event.TheVariants.{AudioDataReceived, VideoDataReceived}
@@ -36,41 +35,44 @@ use Rattle.streams.specs.Streams.{frame_of}
 use Rattle.streams.specs.declared.streams.Frame.{Frame}
 use Rattle.steps.specs.Deciding.{decided}
 use Rattle.steps.proofs.RefusalTheorems.{decided_fate}
-use Rattle.decisions.specs.Answers.{accepted, finished_on, rejected}
+use Rattle.decisions.specs.Answers.{accepted, finished_on, rejected, stream_stands}
 use Rattle.decisions.proofs.RefusalTheorems.{AcceptFate, accepted_fate, fate, finished_fate, gone, rejected_fate}
 use Rattle.replies.proofs.RepliesLaws.{nothing_sent}
-use Rattle.replies.specs.Answers.{answered, closed, idle, refusal}
+use Rattle.replies.specs.Answers.{answered, closed, refusal}
 use Rattle.replies.specs.Finishing.{finishing}
 use Rattle.replies.specs.Replies.{reply_records, short}
 use Rattle.replies.specs.declared.answer.Answer.{Answer}
-use Rattle.messages.specs.Messages.{by_type, frame_answer, guarded, handle_media, handle_message, media_answer, media_refusal}
-use Rattle.messages.specs.declared.messages.MediaAnswer.{MediaAnswer}
+use Rattle.messages.specs.Messages.{by_type, frame_answer, guarded, handle_media, handle_message}
 use Rattle.messages.specs.declared.messages.MediaKind.TheVariants.{Audio, Video}
-use Rattle.calls.specs.Calls.{accepting, bad_config, blank_session, finishes, rejecting, starting}
+use Rattle.calls.specs.Calls.{accepting, bad_config, blank_session, finishes, opened, rejecting, starting}
 
 -- an answer is done, or it is a refusal that leaves the session and the buffer
 pub data Leaves (s : Session) (out : List ℕ) (p : Answer × List ℕ) : Type 0 where
-  done : p.0.outcome ≡ Done → Leaves s out p
-  left : (o : Outcome) → p ≡ (refusal o s, out) → Leaves s out p
+  done : p.0.outcome ≡ Ok tt → Leaves s out p
+  left : (r : Refusal) → p ≡ (refusal r s, out) → Leaves s out p
 
 either : (s : Session) (out : List ℕ) (b : Bool) (p q : Answer × List ℕ) → Leaves s out p → Leaves s out q → Leaves s out (pick b p q)
 either s out true p q f g = f
 either s out false p q f g = g
 
 -- ---- a decision and its records
-abbrev pair : Session → Decision → Sent × List ℕ → Answer × List ℕ
+abbrev pair : Session → Decision → Option ℕ × List ℕ → Answer × List ℕ
 pair s d r = (closed s d r.0, r.1)
 
-by_room : (s : Session) (d : Decision) (records out : List ℕ) (b : Bool) → d.outcome ≡ Done → Leaves s out (closed s d (pick {X = Sent × List ℕ} b (no_room, out) (all_sent (length records), front records out)).0, (pick {X = Sent × List ℕ} b (no_room, out) (all_sent (length records), front records out)).1)
-by_room s d records out true e = left NoRoom refl
-by_room s d records out false e = done e
+-- nothing is written, or all of it
+abbrev room : ℕ → List ℕ → List ℕ → Bool → Option ℕ × List ℕ
+room n after out b = pick b (None, out) (Some n, after)
+
+by_room : (s : Session) (d : Decision) (n : ℕ) (after out : List ℕ) (b : Bool) → d.outcome ≡ Ok tt → Leaves s out (pair s d (room n after out b))
+by_room s d n after out true e = left NoRoom refl
+by_room s d n after out false e = done e
 
 -- a refused decision has no record, so the buffer stays
-refused_stays : (s : Session) (o : Outcome) (c : Change) (code description : List ℕ) (clock : ℕ) (out : List ℕ) → finishing s (refusing_with o c) code description clock out ≡ (refusal o (applied s c), out)
+refused_stays : (s : Session) (o : Refusal) (c : Change) (code description : List ℕ) (clock : ℕ) (out : List ℕ) → finishing s (refusing_with o c) code description clock out ≡ (refusal o (applied s c), out)
 unfolding finishing answered
-refused_stays s o c code description clock out = ap (pair s (refusing_with o c)) (sym (nothing_sent (all_sent 0) out refl))
+refused_stays s o c code description clock out = ap (pair s (refusing_with o c)) (sym (nothing_sent out))
 
-refused_leaves : (s : Session) (o : Outcome) (code description : List ℕ) (clock : ℕ) (out : List ℕ) → finishing s (refusing o) code description clock out ≡ (refusal o s, out)
+refused_leaves : (s : Session) (o : Refusal) (code description : List ℕ) (clock : ℕ) (out : List ℕ) → finishing s (refusing o) code description clock out ≡ (refusal o s, out)
 unfolding applied
 refused_leaves s o code description clock out = refused_stays s o _ code description clock out
 
@@ -78,7 +80,7 @@ finish_leaves : (s : Session) (d : Decision) (code description : List ℕ) (cloc
 unfolding finishing answered sent
 finish_leaves s d code description clock out (is-done e) =
     let records = reply_records d.reply d.name s.version s.encoding code description (time_of s.start clock) in
-    by_room s d records out (ltb (length out) (length records)) e
+    by_room s d (length records) (front records out) out (ltb (length out) (length records)) e
 finish_leaves s d code description clock out (kept o e) =
     left o (ap (λ (x : Decision). finishing s x code description clock out) e ∙ refused_leaves s o code description clock out)
 
@@ -92,11 +94,15 @@ unfolding by_type
 message_leaves s type x timestamp clock body out =
     door s out (by_type s type x timestamp clock body out)
     (either s out (eqb type 4) _ _ (finish_leaves s (decided s x (control_wish body)) [] [] clock out (decided_fate s x (control_wish body)))
-    (either s out (eqb type 8) _ _ (done refl)
-    (either s out (eqb type 9) _ _ (done refl)
+    (either s out (eqb type 8) _ _ (shows (frame_of s x (AudioDataReceived timestamp)))
+    (either s out (eqb type 9) _ _ (shows (frame_of s x (VideoDataReceived timestamp)))
     (either s out (eqb type 18) _ _ (finish_leaves s (decided s x (data_wish body)) [] [] clock out (decided_fate s x (data_wish body)))
     (either s out (eqb type 20) _ _ (finish_leaves s (decided s x (command_wish body)) [] [] clock out (decided_fate s x (command_wish body)))
     (done refl))))))
+  where
+    shows : (f : Option Frame) → Leaves s out (frame_answer s f, out)
+    shows (Some f) = done refl
+    shows None = done refl
 
 pub reject_leaves : (s : Session) (id : RequestId) (code description : List ℕ) (clock : ℕ) (out : List ℕ) → Leaves s out (rejecting s id code description clock out)
 reject_leaves s id code description clock out =
@@ -113,37 +119,36 @@ pub data AcceptLeaves (s : Session) (id : RequestId) (out : List ℕ) (p : Answe
 accept_by : (s : Session) (id : RequestId) (clock : ℕ) (out : List ℕ) (b : Bool) (d : Decision) → AcceptFate (request_at s id) d → AcceptLeaves s id out (pick b (finishing s d [] [] clock out) (refusal BadSession s, out))
 unfolding applied
 accept_by s id clock out true d (fate f) = leaves (finish_leaves s d [] [] clock out f)
-accept_by s id clock out true d (gone h action stream e) =
+accept_by s id clock out true d (gone r h action stream e) =
     removed action stream
     (ap (λ (x : Decision). finishing s x [] [] clock out) e
-    ∙ refused_stays s (WrongStream action stream) (dropping (request_at s id).request) [] [] clock out
-    ∙ ap (λ (n : ℕ). (refusal (WrongStream action stream) (without_request s n), out)) (request_number_lem s id h))
+    ∙ refused_stays s (WrongStream action stream) (dropping r) [] [] clock out
+    ∙ ap (λ (n : ℕ). (refusal (WrongStream action stream) (without_request s n), out)) (request_number_lem s id r h))
 accept_by s id clock out false d f = leaves (left BadSession refl)
 
 pub accept_leaves : (s : Session) (id : RequestId) (clock : ℕ) (out : List ℕ) → AcceptLeaves s id out (accepting s id clock out)
 unfolding guarded
-accept_leaves s id clock out = accept_by s id clock out (session_sound s) (accepted s id) (accepted_fate (request_at s id) (stream_at s (request_at s id).request.stream).found)
+accept_leaves s id clock out = accept_by s id clock out (session_sound s) (accepted s id) (accepted_fate (request_at s id) (stream_stands s (request_at s id)))
 
 -- ---- with 0: the count is the sum of the records' lengths, and the bytes past it stay
-by_count : (s : Session) (d : Decision) (records out : List ℕ) (b : Bool)
-    → (closed s d (pick {X = Sent × List ℕ} b (no_room, out) (all_sent (length records), front records out)).0).outcome ≡ Done
-    → ((closed s d (pick {X = Sent × List ℕ} b (no_room, out) (all_sent (length records), front records out)).0).count ≡ length records) × ((pick {X = Sent × List ℕ} b (no_room, out) (all_sent (length records), front records out)).1 ≡ front records out)
-by_count s d records out true e = let z : ◌≡◌ {A = ℕ} 0 1 = cc in absurd (omega arith)
-by_count s d records out false e = (refl, refl)
+by_count : (s : Session) (d : Decision) (n : ℕ) (after out : List ℕ) (b : Bool) → (pair s d (room n after out b)).0.outcome ≡ Ok tt → ((pair s d (room n after out b)).0.count ≡ n) × ((pair s d (room n after out b)).1 ≡ after)
+by_count s d n after out true e = absurd cc
+by_count s d n after out false e = (refl, refl)
 
-pub written_whole : (s : Session) (d : Decision) (records out : List ℕ) → (answered s d records out).0.outcome ≡ Done → ((answered s d records out).0.count ≡ length records) × ((answered s d records out).1 ≡ front records out)
+pub written_whole : (s : Session) (d : Decision) (records out : List ℕ) → (answered s d records out).0.outcome ≡ Ok tt → ((answered s d records out).0.count ≡ length records) × ((answered s d records out).1 ≡ front records out)
 unfolding answered sent
-written_whole s d records out e = by_count s d records out (ltb (length out) (length records)) e
+written_whole s d records out e = by_count s d (length records) (front records out) out (ltb (length out) (length records)) e
 
 pub past_stays : (records out : List ℕ) → drop (length records) (front records out) ≡ drop (length records) out
 unfolding front
 past_stays records out = drop-append_seam records (drop (length records) out)
 
 -- ---- `handle_media` is `handle_message` on types 8 and 9
-abbrev from_media : Session → MediaAnswer → Answer
-from_media s a = record { outcome = a.outcome; event = a.event; app = a.app; key = a.key; metadata = no_metadata; count = 0; session = s }
+abbrev from_media : Session → Result (Option Frame) Refusal → Answer
+from_media s (Ok f) = frame_answer s f
+from_media s (Err r) = refusal r s
 
-alike : (s : Session) (f : Frame) (out : List ℕ) (b : Bool) → ◌≡◌ {A = Answer × List ℕ} (pick b (frame_answer s f, out) (refusal BadSession s, out)) (from_media s (pick b (media_answer Done f) media_refusal), out)
+alike : (s : Session) (f : Option Frame) (out : List ℕ) (b : Bool) → ◌≡◌ {A = Answer × List ℕ} (pick b (frame_answer s f, out) (refusal BadSession s, out)) (from_media s (pick b (Ok f) (Err BadSession)), out)
 alike s f out true = refl
 alike s f out false = refl
 
@@ -157,13 +162,12 @@ module _ (s : Session) (x : StreamId) (timestamp clock : ℕ) (body out : List �
   video_alike = alike s (frame_of s x (VideoDataReceived timestamp)) out (session_sound s)
 
 -- ---- a start that is refused hands back the blank session, and the buffer stays
-start_room : (fresh : Session) (records out : List ℕ) (b : Bool)
-    → Leaves blank_session out (pick (pick {X = Sent × List ℕ} b (no_room, out) (all_sent (length records), front records out)).0.fits (idle fresh (pick {X = Sent × List ℕ} b (no_room, out) (all_sent (length records), front records out)).0.count) (refusal NoRoom blank_session), (pick {X = Sent × List ℕ} b (no_room, out) (all_sent (length records), front records out)).1)
-start_room fresh records out true = left NoRoom refl
-start_room fresh records out false = done refl
+start_room : (clock : ℕ) (version : Name) (n : ℕ) (after out : List ℕ) (b : Bool) → Leaves blank_session out (opened clock version (room n after out b).0, (room n after out b).1)
+start_room clock version n after out true = left NoRoom refl
+start_room clock version n after out false = done refl
 
 pub start_leaves : (chunk window bandwidth : ℕ) (finish : Bool) (version : List ℕ) (clock : ℕ) (out : List ℕ) → Leaves blank_session out (starting chunk window bandwidth finish version clock out)
 unfolding starting sent
 start_leaves chunk window bandwidth finish version clock out =
     let records = start_records chunk window bandwidth finish in
-    either blank_session out (bad_config chunk version) _ _ (left BadConfig refl) (start_room (fresh_session clock (name_of version)) records out (ltb (length out) (length records)))
+    either blank_session out (bad_config chunk version) _ _ (left BadConfig refl) (start_room clock (name_of version) (length records) (front records out) out (ltb (length out) (length records)))

@@ -1,5 +1,5 @@
 -- The application's decisions and the start: the door, then decide and write.
-use Rattle.std.specs.Prelude.{ℕ, Bool, ◌||◌, List, [], eqb, ltb, length}
+use Rattle.std.specs.Prelude.{ℕ, Bool, ◌||◌, List, [], Option, Some, None, eqb, ltb, length}
 use Rattle.numbers.specs.Choose.{pick}
 use Rattle.text.specs.Names.{empty_name, name_of}
 use Rattle.text.specs.declared.ids.RequestId.{RequestId}
@@ -7,8 +7,7 @@ use Rattle.text.specs.declared.ids.StreamId.{StreamId}
 use Rattle.text.specs.declared.names.Name.{Name}
 use Rattle.record.specs.Records.{start_records}
 use Rattle.answers.specs.Sending.{sent}
-use Rattle.answers.specs.declared.sent.Sent.{Sent}
-use Rattle.wishes.specs.declared.outcome.Outcome.TheVariants.{BadConfig, NoRoom}
+use Rattle.wishes.specs.declared.outcome.Refusal.TheVariants.{BadConfig, NoRoom}
 use Rattle.session.specs.State.{fresh_session}
 use Rattle.session.specs.declared.session.Session.{Session}
 use Rattle.decisions.specs.Answers.{accepted, finished_on, rejected}
@@ -37,8 +36,9 @@ bad_config chunk version = eqb chunk 0 || (ltb 2147483647 chunk || ltb 128 (leng
 abbrev pub blank_session : Session
 blank_session = fresh_session 0 empty_name
 
-abbrev pub opened : ℕ → Name → Sent → Answer
-opened clock version r = pick r.fits (idle (fresh_session clock version) r.count) (refusal NoRoom blank_session)
+abbrev pub opened : ℕ → Name → Option ℕ → Answer
+opened clock version (Some n) = idle (fresh_session clock version) n
+opened clock version None = refusal NoRoom blank_session
 
 unfoldable pub starting : ℕ → ℕ → ℕ → Bool → List ℕ → ℕ → List ℕ → Answer × List ℕ
 starting chunk window bandwidth finish version clock out =

@@ -1,6 +1,5 @@
 -- The starred pins of the bench plate, computed: one table and one claim.
-use Rattle.std.specs.Prelude.{◌≡◌, refl, ℕ, true, List, [], ◌∷◌}
-use Rattle.std.proofs.Math.Option.{Option, some, none}
+use Rattle.std.specs.Prelude.{◌≡◌, refl, ℕ, List, [], ◌∷◌, Option, Some, None, Ok}
 use Rattle.std.specs.Float.{binary32, binary64}
 use Rattle.std.specs.Float.Ieee.{of_bits, to_bits, round, eq, lt, le, is_nan}
 use Rattle.numbers.specs.Fields.{front}
@@ -8,8 +7,6 @@ use Rattle.numbers.specs.Pins.{as_whole}
 use Rattle.numbers.specs.Play.{duration_of, start_of}
 use Rattle.numbers.specs.Single.{convert, recode}
 use Rattle.numbers.specs.Whole.{u32_of, whole_of}
-use Rattle.numbers.specs.declared.play.PlayDuration.{PlayDuration}
-use Rattle.numbers.specs.declared.play.PlayDuration.TheVariants.{Unlimited}
 use Rattle.numbers.specs.declared.play.PlayStartValue.{PlayStartValue}
 use Rattle.numbers.specs.declared.play.PlayStartValue.TheVariants.{LiveOrRecorded, StartTimeInSeconds}
 use Rattle.text.specs.Names.{empty_name, name_of}
@@ -24,7 +21,6 @@ use Rattle.tables.specs.declared.streams.StreamState.{StreamState}
 use Rattle.tables.specs.declared.streams.StreamState.TheVariants.{Publishing}
 use Rattle.wishes.specs.Connect.{without_slash}
 use Rattle.wishes.specs.Outcome.{number_of}
-use Rattle.wishes.specs.declared.wish.PublishArguments.TheVariants.{Good}
 use Rattle.session.specs.Changes.{applied}
 use Rattle.session.specs.Desk.{desk_of}
 use Rattle.session.specs.State.{connected, fresh_session, stream_of, with_changed, with_request, with_stream, without_request, without_stream}
@@ -32,13 +28,13 @@ use Rattle.session.specs.declared.decision.Decision.{Decision}
 use Rattle.session.specs.declared.desk.Desk.{Desk}
 use Rattle.session.specs.declared.session.Session.{Session}
 use Rattle.streams.specs.Streams.{close_stream, create_stream, delete_stream, on_stream}
-use Rattle.steps.specs.Commands.{asking, connect, filing, publish, request_room}
-use Rattle.decisions.specs.Answers.{accepted, accept_request, on_waiting, settled}
+use Rattle.steps.specs.Commands.{connect, publish, request_room}
+use Rattle.decisions.specs.Answers.{accepted, accept_request}
 
 pub data Pin : Type 0 where
   name : List ℕ → Pin
   start : PlayStartValue → Pin
-  duration : PlayDuration → Pin
+  duration : Option ℕ → Pin
   number : ℕ → Pin
   state : StreamState → Pin
   missing : Pin
@@ -61,13 +57,13 @@ unfoldable pub granted : Session → RequestId → Session
 granted s id = applied s (accepted s id).change
 
 unfoldable pub asked : Session
-asked = told (fresh_session 0 empty_name) (λ (d : Desk). connect d 0 0 true (name_of (text "live")))
+asked = told (fresh_session 0 empty_name) (λ (d : Desk). connect d 0 0 (Some (name_of (text "live"))))
 
 unfoldable pub made : Session
 made = told (granted asked request0) (λ (d : Desk). create_stream d 0)
 
 unfoldable pub waiting : Session
-waiting = told made (λ (d : Desk). publish d stream1 0 (Good Live) true (name_of (text "pin7")))
+waiting = told made (λ (d : Desk). publish d stream1 0 (Ok (record { mode = Live; key = Some (name_of (text "pin7")) })))
 
 -- the publish accepted after a delete, and once more; and after a close
 unfoldable pub deleted : Session
@@ -77,8 +73,8 @@ unfoldable pub closed : Session
 closed = told waiting close_stream
 
 abbrev pub state_of : Option Stream → Pin
-state_of (some e) = state e.state
-state_of none = missing
+state_of (Some e) = state e.state
+state_of None = missing
 
 unfoldable pub plate : List Pin
 plate =
@@ -104,7 +100,7 @@ pub plate_is : plate
     ∷ name []
     ∷ start (StartTimeInSeconds 0)
     ∷ start LiveOrRecorded
-    ∷ duration Unlimited
+    ∷ duration None
     ∷ number 4294967295
     ∷ number 0
     ∷ number 16777216
@@ -114,5 +110,5 @@ pub plate_is : plate
     ∷ state Publishing
     ∷ number 0
     ∷ []
-unfolding plate told granted asked made waiting deleted closed applied desk_of settled on_waiting without_slash same start_of duration_of u32_of whole_of recode convert of_bits to_bits round eq lt le is_nan name_of front time_of look change remove changed removed accept_request asking filing request_room connected with_changed with_request with_stream without_request without_stream create_stream on_stream
+unfolding plate told granted asked made waiting deleted closed applied desk_of without_slash same start_of duration_of u32_of whole_of recode convert of_bits to_bits round eq lt le is_nan name_of front time_of look change remove changed removed accept_request request_room connected with_changed with_request with_stream without_request without_stream create_stream on_stream
 plate_is = refl

@@ -8,4 +8,4 @@ mod application;
 mod starts;
 
 pub use application::{accept_request, finish_playing, reject_request};
-pub use starts::start;
+pub use starts::{config_bad, start};

@@ -15,7 +15,6 @@ use Rattle.tables.specs.declared.streams.StreamState.TheVariants.{Created, Publi
 use Rattle.wishes.specs.declared.outcome.Action.{Action}
 use Rattle.wishes.specs.declared.outcome.Action.TheVariants.{Publish as Publishes, Play as Plays}
 use Rattle.session.specs.State.{request_at, request_of, stream_at}
-use Rattle.session.specs.declared.decision.Decision.{Decision}
 use Rattle.session.specs.declared.decision.Reply.{Reply}
 use Rattle.session.specs.declared.session.Session.{Session}
 use Rattle.session.proofs.FitsLaws.{Fits, either, request_there}

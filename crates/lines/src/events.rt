@@ -5,11 +5,12 @@ ghost use Rattle.lines.specs.Lines.{connect_text, described_text, event_line, fi
 
 use crate::metadata_fields::put_metadata;
 use metadata::StreamMetadata;
-use numbers::{PlayDuration, PlayStartValue};
+use numbers::PlayStartValue;
 use session::Event;
 use spelling::{put_duration, put_field, put_flag, put_mode, put_name, put_start, put_word};
 use text::{Name, PublishMode, RequestId, StreamId};
 
+#[tactic(auto, using(spelling::proofs::TextLaws::put_more), unfolding(crate::specs::Lines::names_text))]
 fn put_names(out: &mut [u8], at: usize, app: Name, key: Name) -> usize
     ensures { (result, out.new) ≡ put_all (names_text app key) (at, out.old) }
 {
@@ -17,13 +18,15 @@ fn put_names(out: &mut [u8], at: usize, app: Name, key: Name) -> usize
     put_name(out, to, b" key=", key)
 }
 
+#[tactic(auto, using(spelling::proofs::TextLaws::put_more), unfolding(crate::specs::Lines::connect_text))]
 fn put_connect(out: &mut [u8], at: usize, request: RequestId, app: Name) -> usize
     ensures { (result, out.new) ≡ put_all (connect_text request app) (at, out.old) }
 {
-    let to = put_field(out, at, b" ConnectionRequested request=", request.0 as u64);
+    let to = put_field(out, at, b" ConnectionRequested request=", u64::from(request.0));
     put_name(out, to, b" app=", app)
 }
 
+#[tactic(auto, using(spelling::proofs::TextLaws::put_more), unfolding(crate::specs::Lines::publish_text))]
 fn put_publish(
     out: &mut [u8],
     at: usize,
@@ -38,18 +41,19 @@ fn put_publish(
         out,
         at,
         b" PublishStreamRequested request=",
-        request.0 as u64,
+        u64::from(request.0),
     );
     let b = put_names(out, a, app, key);
     let c = put_word(out, b, b" mode=");
     put_mode(out, c, mode)
 }
 
+#[tactic(auto, using(spelling::proofs::TextLaws::put_more), unfolding(crate::specs::Lines::range_text))]
 fn put_range(
     out: &mut [u8],
     at: usize,
     start: PlayStartValue,
-    duration: PlayDuration,
+    duration: Option<u32>,
     reset: bool,
 ) -> usize
     ensures { (result, out.new) ≡ put_all (range_text start duration reset) (at, out.old) }
@@ -62,6 +66,7 @@ fn put_range(
     put_flag(out, e, reset)
 }
 
+#[tactic(auto, using(spelling::proofs::TextLaws::put_more), unfolding(crate::specs::Lines::play_text))]
 fn put_play(
     out: &mut [u8],
     at: usize,
@@ -69,18 +74,19 @@ fn put_play(
     app: Name,
     key: Name,
     start: PlayStartValue,
-    duration: PlayDuration,
+    duration: Option<u32>,
     reset: bool,
     stream: StreamId,
 ) -> usize
     ensures { (result, out.new) ≡ put_all (play_text request app key start duration reset stream) (at, out.old) }
 {
-    let a = put_field(out, at, b" PlayStreamRequested request=", request.0 as u64);
+    let a = put_field(out, at, b" PlayStreamRequested request=", u64::from(request.0));
     let b = put_names(out, a, app, key);
     let c = put_range(out, b, start, duration, reset);
-    put_field(out, c, b" stream=", stream.0 as u64)
+    put_field(out, c, b" stream=", u64::from(stream.0))
 }
 
+#[tactic(auto, using(spelling::proofs::TextLaws::put_more), unfolding(crate::specs::Lines::finished_text))]
 fn put_finished(out: &mut [u8], at: usize, name: &[u8], app: Name, key: Name) -> usize
     ensures { (result, out.new) ≡ put_all (finished_text name.now app key) (at, out.old) }
 {
@@ -88,6 +94,7 @@ fn put_finished(out: &mut [u8], at: usize, name: &[u8], app: Name, key: Name) ->
     put_names(out, to, app, key)
 }
 
+#[tactic(auto, using(spelling::proofs::TextLaws::put_more), unfolding(crate::specs::Lines::described_text))]
 fn put_described(out: &mut [u8], at: usize, app: Name, key: Name, m: StreamMetadata) -> usize
     ensures { (result, out.new) ≡ put_all (described_text app key m) (at, out.old) }
 {
@@ -95,6 +102,7 @@ fn put_described(out: &mut [u8], at: usize, app: Name, key: Name, m: StreamMetad
     put_metadata(out, to, m)
 }
 
+#[tactic(auto, using(spelling::proofs::TextLaws::put_more), unfolding(crate::specs::Lines::frame_text))]
 fn put_frame(
     out: &mut [u8],
     at: usize,
@@ -107,15 +115,16 @@ fn put_frame(
     ensures { (result, out.new) ≡ put_all (frame_text name.now app key timestamp len) (at, out.old) }
 {
     let a = put_finished(out, at, name, app, key);
-    let b = put_field(out, a, b" timestamp=", timestamp as u64);
+    let b = put_field(out, a, b" timestamp=", u64::from(timestamp));
     put_field(out, b, b" length=", len as u64)
 }
 
 // `len` is the length of the message's body.
+#[tactic(auto, unfolding(spelling::specs::Text::put_all))]
 pub fn put_event(
     out: &mut [u8],
     at: usize,
-    event: Event,
+    event: Option<Event>,
     app: Name,
     key: Name,
     m: StreamMetadata,
@@ -123,12 +132,14 @@ pub fn put_event(
 ) -> usize
     ensures { (result, out.new) ≡ put_all (event_line event app key m len) (at, out.old) }
 {
+    let Some(event) = event else {
+        return at;
+    };
     match event {
-        Event::NoEvent => at,
         Event::ConnectionRequested(request) => put_connect(out, at, request, app),
-        Event::PublishStreamRequested { request, mode } => put_publish(
-            out, at, request, app, key, mode,
-        ),
+        Event::PublishStreamRequested { request, mode } => {
+            put_publish(out, at, request, app, key, mode)
+        }
         Event::PlayStreamRequested {
             request,
             start,
@@ -139,29 +150,17 @@ pub fn put_event(
         Event::PublishStreamFinished => put_finished(out, at, b" PublishStreamFinished", app, key),
         Event::PlayStreamFinished => put_finished(out, at, b" PlayStreamFinished", app, key),
         Event::StreamMetadataChanged => put_described(out, at, app, key, m),
-        Event::AudioDataReceived { timestamp } => put_frame(
-            out,
-            at,
-            b" AudioDataReceived",
-            app,
-            key,
-            timestamp,
-            len,
-        ),
-        Event::VideoDataReceived { timestamp } => put_frame(
-            out,
-            at,
-            b" VideoDataReceived",
-            app,
-            key,
-            timestamp,
-            len,
-        ),
+        Event::AudioDataReceived { timestamp } => {
+            put_frame(out, at, b" AudioDataReceived", app, key, timestamp, len)
+        }
+        Event::VideoDataReceived { timestamp } => {
+            put_frame(out, at, b" VideoDataReceived", app, key, timestamp, len)
+        }
         Event::PingResponseReceived { timestamp } => put_field(
             out,
             at,
             b" PingResponseReceived timestamp=",
-            timestamp as u64,
+            u64::from(timestamp),
         ),
     }
 }

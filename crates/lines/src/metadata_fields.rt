@@ -8,106 +8,80 @@ use numbers::{bits_of_f32, single_of};
 use spelling::{put_field, put_flag, put_name, put_single, put_word};
 use text::Name;
 
-fn put_number(out: &mut [u8], at: usize, set: bool, name: &[u8], n: u32) -> usize
-    ensures { (result, out.new) ≡ put_all (number_text set name.now n) (at, out.old) }
+#[tactic(auto, unfolding(spelling::specs::Text::put_all))]
+fn put_number(out: &mut [u8], at: usize, name: &[u8], number: Option<u32>) -> usize
+    ensures { (result, out.new) ≡ put_all (number_text name.now number) (at, out.old) }
 {
-    if set {
-        return put_field(out, at, name, n as u64);
+    match number {
+        Some(n) => put_field(out, at, name, u64::from(n)),
+        None => at,
     }
-    at
 }
 
 // The single's eight digits; a NaN is 7fc00000.
-fn put_rate(out: &mut [u8], at: usize, set: bool, rate: f32) -> usize
-    ensures { (result, out.new) ≡ put_all (rate_text set rate) (at, out.old) }
+#[tactic(auto, using(spelling::proofs::TextLaws::put_more), unfolding(spelling::specs::Text::put_all))]
+fn put_rate(out: &mut [u8], at: usize, rate: Option<f32>) -> usize
+    ensures { (result, out.new) ≡ put_all (rate_text rate) (at, out.old) }
 {
-    if set {
-        let to = put_word(out, at, b" framerate=");
-        return put_single(out, to, single_of(bits_of_f32(rate)));
+    match rate {
+        Some(x) => {
+            let to = put_word(out, at, b" framerate=");
+            put_single(out, to, single_of(bits_of_f32(x)))
+        }
+        None => at,
     }
-    at
 }
 
-fn put_stereo(out: &mut [u8], at: usize, set: bool, stereo: bool) -> usize
-    ensures { (result, out.new) ≡ put_all (stereo_text set stereo) (at, out.old) }
+#[tactic(auto, using(spelling::proofs::TextLaws::put_more), unfolding(spelling::specs::Text::put_all))]
+fn put_stereo(out: &mut [u8], at: usize, stereo: Option<bool>) -> usize
+    ensures { (result, out.new) ≡ put_all (stereo_text stereo) (at, out.old) }
 {
-    if set {
-        let to = put_word(out, at, b" stereo=");
-        return put_flag(out, to, stereo);
+    match stereo {
+        Some(flag) => {
+            let to = put_word(out, at, b" stereo=");
+            put_flag(out, to, flag)
+        }
+        None => at,
     }
-    at
 }
 
-fn put_encoder(out: &mut [u8], at: usize, set: bool, encoder: Name) -> usize
-    ensures { (result, out.new) ≡ put_all (encoder_text set encoder) (at, out.old) }
+#[tactic(auto, unfolding(spelling::specs::Text::put_all))]
+fn put_encoder(out: &mut [u8], at: usize, encoder: Option<Name>) -> usize
+    ensures { (result, out.new) ≡ put_all (encoder_text encoder) (at, out.old) }
 {
-    if set {
-        return put_name(out, at, b" encoder=", encoder);
+    match encoder {
+        Some(name) => put_name(out, at, b" encoder=", name),
+        None => at,
     }
-    at
 }
 
+#[tactic(auto, using(spelling::proofs::TextLaws::put_more), unfolding(crate::specs::Lines::video_text))]
 fn put_video(out: &mut [u8], at: usize, m: StreamMetadata) -> usize
     ensures { (result, out.new) ≡ put_all (video_text m) (at, out.old) }
 {
-    let a = put_number(out, at, m.has_video_width, b" width=", m.video_width);
-    let b = put_number(out, a, m.has_video_height, b" height=", m.video_height);
-    let c = put_number(
-        out,
-        b,
-        m.has_video_codec_id,
-        b" videocodecid=",
-        m.video_codec_id,
-    );
-    let d = put_number(
-        out,
-        c,
-        m.has_video_bitrate_kbps,
-        b" videodatarate=",
-        m.video_bitrate_kbps,
-    );
-    put_rate(out, d, m.has_video_frame_rate, m.video_frame_rate)
+    let a = put_number(out, at, b" width=", m.video_width);
+    let b = put_number(out, a, b" height=", m.video_height);
+    let c = put_number(out, b, b" videocodecid=", m.video_codec_id);
+    let d = put_number(out, c, b" videodatarate=", m.video_bitrate_kbps);
+    put_rate(out, d, m.video_frame_rate)
 }
 
+#[tactic(auto, using(spelling::proofs::TextLaws::put_more), unfolding(crate::specs::Lines::audio_text))]
 fn put_audio(out: &mut [u8], at: usize, m: StreamMetadata) -> usize
     ensures { (result, out.new) ≡ put_all (audio_text m) (at, out.old) }
 {
-    let a = put_number(
-        out,
-        at,
-        m.has_audio_codec_id,
-        b" audiocodecid=",
-        m.audio_codec_id,
-    );
-    let b = put_number(
-        out,
-        a,
-        m.has_audio_bitrate_kbps,
-        b" audiodatarate=",
-        m.audio_bitrate_kbps,
-    );
-    let c = put_number(
-        out,
-        b,
-        m.has_audio_sample_rate,
-        b" audiosamplerate=",
-        m.audio_sample_rate,
-    );
-    let d = put_number(
-        out,
-        c,
-        m.has_audio_channels,
-        b" audiochannels=",
-        m.audio_channels,
-    );
-    put_stereo(out, d, m.has_audio_is_stereo, m.audio_is_stereo)
+    let a = put_number(out, at, b" audiocodecid=", m.audio_codec_id);
+    let b = put_number(out, a, b" audiodatarate=", m.audio_bitrate_kbps);
+    let c = put_number(out, b, b" audiosamplerate=", m.audio_sample_rate);
+    let d = put_number(out, c, b" audiochannels=", m.audio_channels);
+    put_stereo(out, d, m.audio_is_stereo)
 }
 
+#[tactic(auto, using(spelling::proofs::TextLaws::put_more), unfolding(crate::specs::Lines::metadata_text))]
 pub fn put_metadata(out: &mut [u8], at: usize, m: StreamMetadata) -> usize
     ensures { (result, out.new) ≡ put_all (metadata_text m) (at, out.old) }
 {
-    let encoder = m.encoder;
     let to = put_video(out, at, m);
     let then = put_audio(out, to, m);
-    put_encoder(out, then, m.has_encoder, encoder)
+    put_encoder(out, then, m.encoder)
 }

@@ -5,8 +5,8 @@ use std::io;
 use std::io::Write;
 use text::Name;
 
-fn whole(output: &mut impl Write, name: &[u8], set: bool, x: u32) -> io::Result<()> {
-    if set {
+fn whole(output: &mut impl Write, name: &[u8], set: Option<u32>) -> io::Result<()> {
+    if let Some(x) = set {
         say(output, name)?;
         number(output, x as u64)?;
         say(output, b" ")?;
@@ -15,100 +15,62 @@ fn whole(output: &mut impl Write, name: &[u8], set: bool, x: u32) -> io::Result<
 }
 
 // The single's own digits.
-fn rate(output: &mut impl Write, set: bool, x: f32) -> io::Result<()> {
-    if set {
+fn rate(output: &mut impl Write, set: Option<f32>) -> io::Result<()> {
+    if let Some(x) = set {
         let single = numbers::single_of(numbers::bits_of_f32(x));
-        let mut four = [0u8; 4];
-        numbers::write_field_at(&mut four, 0, 4, single as u64);
         say(output, b"framerate=")?;
-        bytes(output, &four, 4)?;
+        bytes(output, &single.to_be_bytes(), 4)?;
         say(output, b" ")?;
     }
     Ok(())
 }
 
-fn flag(output: &mut impl Write, set: bool, b: bool) -> io::Result<()> {
-    if set {
-        if b {
-            say(output, b"stereo=1 ")?;
-        } else {
-            say(output, b"stereo=0 ")?;
-        }
+fn flag(output: &mut impl Write, set: Option<bool>) -> io::Result<()> {
+    if let Some(b) = set {
+        say(output, if b { b"stereo=1 " } else { b"stereo=0 " })?;
     }
     Ok(())
 }
 
-fn encoder(output: &mut impl Write, set: bool, name: Name) -> io::Result<()> {
-    if set {
-        let own = name.bytes;
+fn encoder(output: &mut impl Write, set: Option<Name>) -> io::Result<()> {
+    if let Some(name) = set {
         say(output, b"encoder=")?;
         if name.len == 0 {
             say(output, b"-")?;
         }
-        bytes(output, &own, name.len)?;
+        bytes(output, &name.bytes, name.len)?;
         say(output, b" ")?;
     }
     Ok(())
 }
 
 fn some_set(m: StreamMetadata) -> bool {
-    m.has_video_width
-        || m.has_video_height
-        || m.has_video_codec_id
-        || m.has_video_bitrate_kbps
-        || m.has_video_frame_rate
-        || m.has_audio_codec_id
-        || m.has_audio_bitrate_kbps
-        || m.has_audio_sample_rate
-        || m.has_audio_channels
-        || m.has_audio_is_stereo
-        || m.has_encoder
+    m.video_width.is_some()
+        || m.video_height.is_some()
+        || m.video_codec_id.is_some()
+        || m.video_bitrate_kbps.is_some()
+        || m.video_frame_rate.is_some()
+        || m.audio_codec_id.is_some()
+        || m.audio_bitrate_kbps.is_some()
+        || m.audio_sample_rate.is_some()
+        || m.audio_channels.is_some()
+        || m.audio_is_stereo.is_some()
+        || m.encoder.is_some()
 }
 
 pub fn write_fields(output: &mut impl Write, m: StreamMetadata) -> io::Result<()> {
-    let name = m.encoder;
     if some_set(m) {
-        whole(output, b"width=", m.has_video_width, m.video_width)?;
-        whole(output, b"height=", m.has_video_height, m.video_height)?;
-        whole(
-            output,
-            b"videocodecid=",
-            m.has_video_codec_id,
-            m.video_codec_id,
-        )?;
-        whole(
-            output,
-            b"videodatarate=",
-            m.has_video_bitrate_kbps,
-            m.video_bitrate_kbps,
-        )?;
-        rate(output, m.has_video_frame_rate, m.video_frame_rate)?;
-        whole(
-            output,
-            b"audiocodecid=",
-            m.has_audio_codec_id,
-            m.audio_codec_id,
-        )?;
-        whole(
-            output,
-            b"audiodatarate=",
-            m.has_audio_bitrate_kbps,
-            m.audio_bitrate_kbps,
-        )?;
-        whole(
-            output,
-            b"audiosamplerate=",
-            m.has_audio_sample_rate,
-            m.audio_sample_rate,
-        )?;
-        whole(
-            output,
-            b"audiochannels=",
-            m.has_audio_channels,
-            m.audio_channels,
-        )?;
-        flag(output, m.has_audio_is_stereo, m.audio_is_stereo)?;
-        encoder(output, m.has_encoder, name)
+        whole(output, b"width=", m.video_width)?;
+        whole(output, b"height=", m.video_height)?;
+        whole(output, b"videocodecid=", m.video_codec_id)?;
+        whole(output, b"videodatarate=", m.video_bitrate_kbps)?;
+        rate(output, m.video_frame_rate)?;
+        whole(output, b"audiocodecid=", m.audio_codec_id)?;
+        whole(output, b"audiodatarate=", m.audio_bitrate_kbps)?;
+        whole(output, b"audiosamplerate=", m.audio_sample_rate)?;
+        whole(output, b"audiochannels=", m.audio_channels)?;
+        flag(output, m.audio_is_stereo)?;
+        encoder(output, m.encoder)
     } else {
         say(output, b"empty ")
     }

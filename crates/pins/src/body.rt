@@ -1,7 +1,7 @@
 // One AMF0 body: read, checked, and its values written as a line.
-use crate::digits::read_bytes;
 use crate::show::{hex, line, say};
-use amf0::{Amf0Value, Checked, Cursor, Found};
+use amf0::{Amf0Value, BodyError, Cursor};
+use input::read_spelled;
 use std::io;
 use std::io::{Read, Write};
 
@@ -10,10 +10,7 @@ fn write_text(output: &mut impl Write, body: &[u8], start: usize, len: usize) ->
     if len == 0 {
         return say(output, b"-");
     }
-    if body.len() < start {
-        return Ok(());
-    }
-    if body.len() - start < len {
+    if body.len() < start || body.len() - start < len {
         return Ok(());
     }
     for b in &body[start..start + len] {
@@ -31,44 +28,37 @@ fn write_number(output: &mut impl Write, body: &[u8], at: usize) -> io::Result<(
 }
 
 fn write_boolean(output: &mut impl Write, b: bool) -> io::Result<()> {
-    if b {
-        say(output, b"boolean=1")
-    } else {
-        say(output, b"boolean=0")
-    }
+    say(output, if b { b"boolean=1" } else { b"boolean=0" })
 }
 
 fn write_value(output: &mut impl Write, body: &[u8], at: usize) -> io::Result<()> {
-    let read = amf0::read_value(body, at);
-    let value = read.value;
-    match value {
+    let Some(read) = amf0::read_value(body, at) else {
+        return say(output, b"none");
+    };
+    match read.value {
         Amf0Value::Number(_) => write_number(output, body, at),
         Amf0Value::Boolean(b) => write_boolean(output, b),
         Amf0Value::Text { start, len } => {
             say(output, b"string=")?;
             write_text(output, body, start, len)
         }
-        Amf0Value::Object { start: _ } => say(output, b"object"),
+        Amf0Value::Object { .. } => say(output, b"object"),
         Amf0Value::Null => say(output, b"null"),
         Amf0Value::Undefined => say(output, b"undefined"),
-        Amf0Value::EcmaArray { start: _ } => say(output, b"array"),
-        Amf0Value::StrictArray { start: _ } => say(output, b"strict"),
+        Amf0Value::EcmaArray { .. } => say(output, b"array"),
+        Amf0Value::StrictArray { .. } => say(output, b"strict"),
         Amf0Value::Date => say(output, b"date"),
         Amf0Value::LongText { start, len } => {
             say(output, b"long=")?;
             write_text(output, body, start, len)
         }
-        Amf0Value::NoValue => say(output, b"none"),
     }
 }
 
 fn has_properties(body: &[u8], at: usize) -> bool {
-    let read = amf0::read_value(body, at);
-    let value = read.value;
-    if let Amf0Value::Object { start: _ } = value {
-        true
-    } else {
-        false
+    match amf0::read_value(body, at) {
+        Some(read) => matches!(read.value, Amf0Value::Object { .. }),
+        None => false,
     }
 }
 
@@ -76,8 +66,8 @@ fn has_properties(body: &[u8], at: usize) -> bool {
 fn write_property(output: &mut impl Write, body: &[u8], at: usize) -> io::Result<()> {
     say(output, b"[")?;
     match amf0::last_property(body, at, b"a") {
-        Found::At(p) => write_value(output, body, p)?,
-        Found::Missing => say(output, b"none")?,
+        Some(p) => write_value(output, body, p)?,
+        None => say(output, b"none")?,
     }
     say(output, b"]")
 }
@@ -93,10 +83,7 @@ fn write_one(output: &mut impl Write, body: &[u8], at: usize) -> io::Result<()> 
 
 // Whether the cursor stands where the n-th value begins. (Only the first ones are looked up from the start.)
 fn in_place(body: &[u8], n: usize, at: usize) -> bool {
-    if 16 <= n {
-        return true;
-    }
-    amf0::place_of(body, n) == at
+    16 <= n || amf0::place_of(body, n) == at
 }
 
 // The values one after the other, by a cursor.
@@ -111,21 +98,19 @@ fn write_values(output: &mut impl Write, body: &[u8]) -> io::Result<()> {
         } else {
             say(output, b" misplaced")?;
         }
-        let here = Cursor { at };
-        let next = here.next(body);
-        at = next.at;
+        at = Cursor { at }.next(body).at;
     }
     Ok(())
 }
 
 fn write_body(output: &mut impl Write, body: &[u8]) -> io::Result<()> {
     match amf0::check_body(body) {
-        Checked::Whole => {
+        Ok(()) => {
             say(output, b"whole")?;
             write_values(output, body)?;
         }
-        Checked::Bad => say(output, b"bad")?,
-        Checked::Deep => say(output, b"deep")?,
+        Err(BodyError::NotAmf0) => say(output, b"bad")?,
+        Err(BodyError::TooDeep) => say(output, b"deep")?,
     }
     line(output)
 }
@@ -133,15 +118,14 @@ fn write_body(output: &mut impl Write, body: &[u8]) -> io::Result<()> {
 // Its length in four digits, and it. Whether there was a whole one.
 pub fn run_body(input: &mut impl Read, output: &mut impl Write) -> io::Result<bool> {
     let mut count = [0u8; 2];
-    if read_bytes(input, &mut count, 2)? {
-        let n = numbers::u16_at(&count, 0) as usize;
-        let mut bytes = [0u8; 4200];
-        if read_bytes(input, &mut bytes, n)? {
-            if n <= 4200 {
-                write_body(output, &bytes[..n])?;
-                return Ok(true);
-            }
-        }
+    let mut bytes = [0u8; 4200];
+    if !read_spelled(input, &mut count)? {
+        return Ok(false);
     }
-    Ok(false)
+    let n = numbers::u16_at(&count, 0) as usize;
+    if bytes.len() < n || !read_spelled(input, &mut bytes[..n])? {
+        return Ok(false);
+    }
+    write_body(output, &bytes[..n])?;
+    Ok(true)
 }

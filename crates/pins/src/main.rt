@@ -3,7 +3,6 @@
 #![tactic(auto)]
 
 mod body;
-mod digits;
 mod show;
 mod vector;
 

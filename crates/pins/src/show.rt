@@ -1,8 +1,8 @@
 // What the program writes. Every line says what went in and what came out.
-use numbers::{PlayDuration, PlayStartValue};
+use numbers::PlayStartValue;
 use std::io;
 use std::io::Write;
-use text::{Command, ModeWord, PublishMode};
+use text::{Command, PublishMode};
 
 pub fn say(output: &mut impl Write, words: &[u8]) -> io::Result<()> {
     output.write_all(words)
@@ -51,8 +51,8 @@ pub fn write_start(output: &mut impl Write, bits: u64) -> io::Result<()> {
 
 pub fn write_duration(output: &mut impl Write, bits: u64) -> io::Result<()> {
     match numbers::duration_of(bits) {
-        PlayDuration::Unlimited => say(output, b"none"),
-        PlayDuration::Seconds(n) => number(output, n as u64),
+        Some(n) => number(output, n as u64),
+        None => say(output, b"none"),
     }
 }
 
@@ -142,27 +142,25 @@ pub fn show_mode(output: &mut impl Write, word: &[u8]) -> io::Result<()> {
     say(output, word)?;
     say(output, b"\" is ")?;
     match text::mode_of(word) {
-        ModeWord::Mode(mode) => write_mode(output, mode)?,
-        ModeWord::Other => say(output, b"none")?,
+        Some(mode) => write_mode(output, mode)?,
+        None => say(output, b"none")?,
     }
     line(output)
 }
 
 pub fn show_name(output: &mut impl Write, part: &[u8]) -> io::Result<()> {
-    let read = text::read_name(part);
-    let name = read.name;
-    let bytes = name.bytes;
     say(output, b"a name of ")?;
     number(output, part.len() as u64)?;
-    if read.fits {
-        say(output, b" bytes fits and is \"")?;
-        say(output, text::text_of(&bytes, name.len))?;
-        say(output, b"\"")?;
-    } else {
-        say(output, b" bytes is refused")?;
-    }
-    if text::name_is(name, part) {
-        say(output, b", its own text")?;
+    match text::read_name(part) {
+        Some(name) => {
+            say(output, b" bytes fits and is \"")?;
+            say(output, name.text())?;
+            say(output, b"\"")?;
+            if text::name_is(name, part) {
+                say(output, b", its own text")?;
+            }
+        }
+        None => say(output, b" bytes is refused")?,
     }
     line(output)
 }

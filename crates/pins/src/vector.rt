@@ -1,6 +1,6 @@
 // One double: read, converted every way, and written as a line.
-use crate::digits::read_bytes;
 use crate::show::{hex, line, number, say, write_duration, write_start};
+use input::read_spelled;
 use std::io;
 use std::io::{Read, Write};
 
@@ -29,9 +29,9 @@ fn write_vector(output: &mut impl Write, bits: u64) -> io::Result<()> {
 // Whether there was a whole one.
 pub fn run_double(input: &mut impl Read, output: &mut impl Write) -> io::Result<bool> {
     let mut bytes = [0u8; 8];
-    if read_bytes(input, &mut bytes, 8)? {
-        write_vector(output, numbers::u64_at(&bytes, 0))?;
-        return Ok(true);
+    if !read_spelled(input, &mut bytes)? {
+        return Ok(false);
     }
-    Ok(false)
+    write_vector(output, numbers::u64_at(&bytes, 0))?;
+    Ok(true)
 }

@@ -1,11 +1,12 @@
 -- The calls of a trace, each with its fields read from an entry; the text for it, and the next session.
-use Rattle.std.specs.Prelude.{ℕ, ◌+◌, ◌/◌, ◌%◌, Bool, List, eqb, Float, drop, take}
+use Rattle.std.specs.Prelude.{ℕ, ◌+◌, ◌/◌, ◌%◌, Bool, List, Option, Some, None, Result, Ok, Err, eqb, Float, drop, take}
 use Rattle.std.specs.Float.{binary32, binary64}
 use Rattle.std.specs.Float.Ieee.{of_bits}
 use Rattle.numbers.specs.Choose.{pick}
 use Rattle.numbers.specs.Fields.{field_at}
 use Rattle.numbers.specs.Single.{convert, recode}
-use Rattle.text.specs.Names.{name_read}
+use Rattle.std.specs.Option.{unwrap_or}
+use Rattle.text.specs.Names.{empty_name, name_read}
 use Rattle.text.specs.Words.{text}
 use Rattle.text.specs.declared.ids.RequestId.{RequestId}
 use Rattle.text.specs.declared.ids.StreamId.{StreamId}
@@ -13,8 +14,8 @@ use Rattle.text.specs.declared.names.Name.{Name}
 use Rattle.metadata.specs.declared.metadata.StreamMetadata.{StreamMetadata}
 use Rattle.session.specs.declared.session.Session.{Session}
 use Rattle.sending.specs.Sends.{sends_media, sends_metadata, sends_ping}
-use Rattle.sending.specs.declared.answer.PingAnswer.{PingAnswer}
-use Rattle.sending.specs.declared.answer.SendAnswer.{SendAnswer}
+use Rattle.sending.specs.declared.sends.PingSent.{PingSent}
+use Rattle.wishes.specs.declared.outcome.Refusal.{Refusal}
 use Rattle.replies.specs.declared.answer.Answer.{Answer}
 use Rattle.messages.specs.Messages.{handle_message}
 use Rattle.calls.specs.Calls.{accepting, finishes, rejecting, starting}
@@ -73,41 +74,33 @@ bit e power = eqb (field_at 2 e 17 / power % 2) 1
 
 -- "An encoder of more than 128 bytes is handed over as its first 128 bytes with the length n."
 unfoldable pub encoder_in : List ℕ → Name
-encoder_in e = record { bytes = (name_read (take 128 (part e 58 (field_at 2 e 56)))).name.bytes; len = field_at 2 e 56 }
+encoder_in e = record { bytes = (unwrap_or (name_read (take 128 (part e 58 (field_at 2 e 56)))) empty_name).bytes; len = field_at 2 e 56 }
 
 -- "framerate u32 (the single's bits)"
 unfoldable pub rate_in : List ℕ → Float
 rate_in e = convert binary32 (of_bits binary64 (recode binary32 binary64 (field_at 4 e 35)))
 
+abbrev pub number_in : List ℕ → ℕ → ℕ → Option ℕ
+number_in e power at = pick (bit e power) (Some (field_at 4 e at)) None
+
 unfoldable pub metadata_in : List ℕ → StreamMetadata
 metadata_in e =
     record {
-      has_video_width = bit e 1;
-      has_video_height = bit e 2;
-      has_video_codec_id = bit e 4;
-      has_video_bitrate_kbps = bit e 8;
-      has_video_frame_rate = bit e 16;
-      has_audio_codec_id = bit e 32;
-      has_audio_bitrate_kbps = bit e 64;
-      has_audio_sample_rate = bit e 128;
-      has_audio_channels = bit e 256;
-      has_audio_is_stereo = bit e 512;
-      has_encoder = bit e 1024;
-      video_width = field_at 4 e 19;
-      video_height = field_at 4 e 23;
-      video_codec_id = field_at 4 e 27;
-      video_bitrate_kbps = field_at 4 e 31;
-      video_frame_rate = rate_in e;
-      audio_codec_id = field_at 4 e 39;
-      audio_bitrate_kbps = field_at 4 e 43;
-      audio_sample_rate = field_at 4 e 47;
-      audio_channels = field_at 4 e 51;
-      audio_is_stereo = eqb (field_at 1 e 55) 1;
-      encoder = encoder_in e;
+      video_width = number_in e 1 19;
+      video_height = number_in e 2 23;
+      video_codec_id = number_in e 4 27;
+      video_bitrate_kbps = number_in e 8 31;
+      video_frame_rate = pick (bit e 16) (Some (rate_in e)) None;
+      audio_codec_id = number_in e 32 39;
+      audio_bitrate_kbps = number_in e 64 43;
+      audio_sample_rate = number_in e 128 47;
+      audio_channels = number_in e 256 51;
+      audio_is_stereo = pick (bit e 512) (Some (eqb (field_at 1 e 55) 1)) None;
+      encoder = pick (bit e 1024) (Some (encoder_in e)) None;
     }
 
-unfoldable pub send_line : List ℕ → SendAnswer × List ℕ → List ℕ
-send_line name p = send_text name p.0.outcome p.0.count p.1
+abbrev pub send_line : List ℕ → Result ℕ Refusal × List ℕ → List ℕ
+send_line name p = send_text name p.0 p.1
 
 unfoldable pub metadata_line : Session → List ℕ → List ℕ → List ℕ
 metadata_line s e out = send_line (text "metadata") (sends_metadata s (stream (field_at 4 e 1)) (metadata_in e) (field_at 8 e 5) out)
@@ -117,8 +110,9 @@ unfoldable pub media_line : Session → List ℕ → List ℕ → List ℕ
 media_line s e out = send_line (text "media") (sends_media (pick (eqb (field_at 1 e 1) 8) 8 9) s (stream (field_at 4 e 2)) (field_at 4 e 6) (eqb (field_at 1 e 10) 1) (part e 19 (field_at 4 e 15)) out)
 
 -- 08: "clock u64, room u32"
-unfoldable pub pinged : PingAnswer × List ℕ → List ℕ
-pinged p = ping_line p.0.outcome p.0.timestamp p.0.count p.1
+abbrev pub pinged : Result PingSent Refusal × List ℕ → List ℕ
+pinged (Ok a, out) = ping_line (Ok a.count) a.timestamp out
+pinged (Err r, out) = ping_line (Err r) 0 out
 
 unfoldable pub pinged_line : Session → List ℕ → List ℕ → List ℕ
 pinged_line s e out = pinged (sends_ping s (field_at 8 e 1) out)

@@ -16,30 +16,29 @@ pub struct Turn {
 }
 
 // The line of an answer, and the session that it hands back.
+#[tactic(auto, unfolding(crate::specs::Plays::answer_turn, crate::specs::Plays::turn_of))]
 fn answer_turn(line: &mut [u8], name: &[u8], answer: Answer, len: usize, out: &[u8]) -> Turn
     ensures { (result, line.new) ≡ answer_turn name.now len (answer, out.now) line.old }
 {
-    let outcome = answer.outcome;
-    let event = answer.event;
-    let app = answer.app;
-    let key = answer.key;
-    let m = answer.metadata;
-    let session = answer.session;
     let count = put_answer(
         line,
         name,
-        outcome,
-        event,
-        app,
-        key,
-        m,
+        answer.outcome,
+        answer.event,
+        answer.app,
+        answer.key,
+        answer.metadata,
         len,
         answer.count,
         out,
     );
-    Turn { session, count }
+    Turn {
+        session: answer.session,
+        count,
+    }
 }
 
+#[tactic(auto, unfolding(crate::specs::Plays::start_played))]
 pub fn play_start(e: &[u8], out: &mut [u8], line: &mut [u8]) -> Turn
     ensures { (result, line.new) ≡ start_played e.now out.old line.old }
 {
@@ -54,6 +53,7 @@ pub fn play_start(e: &[u8], out: &mut [u8], line: &mut [u8]) -> Turn
     answer_turn(line, b"start", answer, 0, out)
 }
 
+#[tactic(auto, unfolding(crate::specs::Plays::message_played))]
 pub fn play_message(s: Session, e: &[u8], out: &mut [u8], line: &mut [u8]) -> Turn
     ensures { (result, line.new) ≡ message_played s e.now out.old line.old }
 {
@@ -67,6 +67,7 @@ pub fn play_message(s: Session, e: &[u8], out: &mut [u8], line: &mut [u8]) -> Tu
     answer_turn(line, b"message", answer, n, out)
 }
 
+#[tactic(auto, unfolding(crate::specs::Plays::accept_played))]
 pub fn play_accept(s: Session, e: &[u8], out: &mut [u8], line: &mut [u8]) -> Turn
     ensures { (result, line.new) ≡ accept_played s e.now out.old line.old }
 {
@@ -76,6 +77,7 @@ pub fn play_accept(s: Session, e: &[u8], out: &mut [u8], line: &mut [u8]) -> Tur
     answer_turn(line, b"accept", answer, 0, out)
 }
 
+#[tactic(auto, unfolding(crate::specs::Plays::reject_played))]
 pub fn play_reject(s: Session, e: &[u8], out: &mut [u8], line: &mut [u8]) -> Turn
     ensures { (result, line.new) ≡ reject_played s e.now out.old line.old }
 {
@@ -89,6 +91,7 @@ pub fn play_reject(s: Session, e: &[u8], out: &mut [u8], line: &mut [u8]) -> Tur
     answer_turn(line, b"reject", answer, 0, out)
 }
 
+#[tactic(auto, unfolding(crate::specs::Plays::finish_played))]
 pub fn play_finish(s: Session, e: &[u8], out: &mut [u8], line: &mut [u8]) -> Turn
     ensures { (result, line.new) ≡ finish_played s e.now out.old line.old }
 {

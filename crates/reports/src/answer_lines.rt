@@ -1,14 +1,14 @@
 // "NAME CODE [ACTION STREAM] [EVENT FIELD=VALUE ..] [ping=N] [out=HEX] [spilt]"
 ghost use Rattle.std.specs.Prelude.{◌≡◌, drop};
 ghost use Rattle.spelling.specs.Text.{put_all};
-ghost use Rattle.reports.specs.AnswerLine.{answer_text, end_text, head_text, ping_line, ping_text, send_text, spilt_text, untouched as untouched_from, written_text};
+ghost use Rattle.reports.specs.AnswerLine.{answer_text, end_text, head_text, ping_line, send_text, spilt_text, untouched as untouched_from, written_text};
 
 use lines::{put_event, put_outcome};
 use metadata::StreamMetadata;
 use session::Event;
 use spelling::{put_field, put_hex, put_word};
 use text::{Name, text_of};
-use wishes::{Outcome, number_of};
+use wishes::{Outcome, Refusal};
 
 // Whether every byte from n on is still A5.
 fn untouched(out: &[u8], n: usize) -> bool
@@ -64,7 +64,7 @@ pub fn put_answer(
     line: &mut [u8],
     name: &[u8],
     outcome: Outcome,
-    event: Event,
+    event: Option<Event>,
     app: Name,
     key: Name,
     m: StreamMetadata,
@@ -80,36 +80,40 @@ pub fn put_answer(
 }
 
 #[tactic(auto, using(spelling::proofs::TextLaws::put_more), unfolding(crate::specs::AnswerLine::send_text))]
-pub fn put_sent(line: &mut [u8], name: &[u8], outcome: Outcome, count: usize, out: &[u8]) -> usize
-    ensures { (result, line.new) ≡ put_all (send_text name.now outcome count out.now) (0, line.old) }
+pub fn put_sent(line: &mut [u8], name: &[u8], sent: Result<usize, Refusal>, out: &[u8]) -> usize
+    ensures { (result, line.new) ≡ put_all (send_text name.now sent out.now) (0, line.old) }
 {
-    let to = put_head(line, name, outcome);
-    put_end(line, to, count, out)
-}
-
-// "ping=N is the number that a ping request hands back"
-#[tactic(auto, using(spelling::proofs::TextLaws::put_none), unfolding(crate::specs::AnswerLine::ping_text))]
-fn put_number(line: &mut [u8], at: usize, outcome: Outcome, timestamp: u32) -> usize
-    ensures { (result, line.new) ≡ put_all (ping_text outcome timestamp) (at, line.old) }
-{
-    if number_of(outcome) == 0 {
-        put_field(line, at, b" ping=", timestamp as u64)
-    } else {
-        at
+    match sent {
+        Ok(count) => {
+            let to = put_head(line, name, Ok(()));
+            put_end(line, to, count, out)
+        }
+        Err(refusal) => {
+            let to = put_head(line, name, Err(refusal));
+            put_end(line, to, 0, out)
+        }
     }
 }
 
+// "ping=N is the number that a ping request hands back"
 #[tactic(auto, using(spelling::proofs::TextLaws::put_more), unfolding(crate::specs::AnswerLine::ping_line))]
 pub fn put_ping(
     line: &mut [u8],
-    outcome: Outcome,
+    sent: Result<usize, Refusal>,
     timestamp: u32,
-    count: usize,
     out: &[u8],
 ) -> usize
-    ensures { (result, line.new) ≡ put_all (ping_line outcome timestamp count out.now) (0, line.old) }
+    ensures { (result, line.new) ≡ put_all (ping_line sent timestamp out.now) (0, line.old) }
 {
-    let a = put_head(line, b"ping", outcome);
-    let b = put_number(line, a, outcome, timestamp);
-    put_end(line, b, count, out)
+    match sent {
+        Ok(count) => {
+            let a = put_head(line, b"ping", Ok(()));
+            let b = put_field(line, a, b" ping=", timestamp as u64);
+            put_end(line, b, count, out)
+        }
+        Err(refusal) => {
+            let to = put_head(line, b"ping", Err(refusal));
+            put_end(line, to, 0, out)
+        }
+    }
 }

@@ -1,1 +1,2 @@
+pub mod SendsLaws
 pub mod RefusalTheorems

@@ -1,5 +1,5 @@
 -- The answers of sends.
-use Rattle.std.specs.Prelude.{ℕ, List, Option, Result}
+use Rattle.std.specs.Prelude.{ℕ, List, Result}
 use Rattle.std.specs.Option.{ok_or}
 use Rattle.answers.specs.Sending.{sent}
 use Rattle.wishes.specs.declared.outcome.Refusal.{Refusal}

@@ -4,6 +4,9 @@
 
 mod show;
 
+ghost use Rattle.std.specs.Prelude.{◌≤◌};
+
+use answers::Sent;
 use show::show;
 use std::io;
 use std::io::Write;
@@ -11,391 +14,290 @@ use text::{Name, StreamId};
 
 // The longest name of one letter.
 fn longest(b: u8) -> Name {
-    let bytes = [b; 128];
-    let read = text::read_name(&bytes);
-    read.name
+    word(&[b; 128])
 }
 
 fn word(part: &[u8]) -> Name {
-    let read = text::read_name(part);
-    read.name
+    text::read_name(part).name
 }
 
-fn start(
-    output: &mut impl Write,
+// One record, or its refusal, in the first `room` bytes of a buffer of A5.
+fn told<W: Write, F: FnOnce(&mut [u8]) -> Sent>(
+    output: &mut W,
     name: &[u8],
-    out: &mut [u8],
-    chunk: u32,
-    size: u32,
-    bandwidth: u32,
-    done: bool,
-) -> io::Result<()> {
-    let sent = answers::start_records(out, chunk, size, bandwidth, done);
-    show(output, name, sent, out)
-}
-
-fn created(
-    output: &mut impl Write,
-    name: &[u8],
-    out: &mut [u8],
-    transaction: u64,
-    number: u32,
-    time: u32,
-) -> io::Result<()> {
-    let sent = answers::stream_created(out, transaction, StreamId(number), time);
-    show(output, name, sent, out)
-}
-
-fn connect(
-    output: &mut impl Write,
-    name: &[u8],
-    out: &mut [u8],
-    transaction: u64,
-    version: Name,
-    app: Name,
-    encoding: u64,
-    time: u32,
-) -> io::Result<()> {
-    let sent = answers::connect_accepted(out, transaction, version, app, encoding, time);
-    show(output, name, sent, out)
-}
-
-fn publish(
-    output: &mut impl Write,
-    name: &[u8],
-    out: &mut [u8],
-    key: Name,
-    time: u32,
-    stream: u32,
-) -> io::Result<()> {
-    let sent = answers::publish_accepted(out, key, time, StreamId(stream));
-    show(output, name, sent, out)
-}
-
-fn play(
-    output: &mut impl Write,
-    name: &[u8],
-    out: &mut [u8],
-    key: Name,
-    time: u32,
-    stream: u32,
-) -> io::Result<()> {
-    let sent = answers::play_accepted(out, key, time, StreamId(stream));
-    show(output, name, sent, out)
-}
-
-fn finish(
-    output: &mut impl Write,
-    name: &[u8],
-    out: &mut [u8],
-    key: Name,
-    time: u32,
-    stream: u32,
-) -> io::Result<()> {
-    let sent = answers::play_finished(out, key, time, StreamId(stream));
-    show(output, name, sent, out)
-}
-
-fn error(
-    output: &mut impl Write,
-    name: &[u8],
-    out: &mut [u8],
-    transaction: u64,
-    code: &[u8],
-    description: &[u8],
-    time: u32,
-    stream: u32,
-) -> io::Result<()> {
-    if 256 < code.len() {
-        return Ok(());
-    }
-    if 256 < description.len() {
-        return Ok(());
-    }
-    let sent = answers::error_record(out, transaction, code, description, time, StreamId(stream));
-    show(output, name, sent, out)
-}
-
-fn media(
-    output: &mut impl Write,
-    name: &[u8],
-    out: &mut [u8],
-    kind: u8,
-    time: u32,
-    stream: u32,
-    droppable: bool,
-    body: &[u8],
-) -> io::Result<()> {
-    let sent = answers::media_record(out, kind, time, StreamId(stream), droppable, body);
-    show(output, name, sent, out)
-}
-
-fn ping_request(output: &mut impl Write, name: &[u8], out: &mut [u8], time: u32) -> io::Result<()> {
-    let sent = answers::ping_request(out, time);
-    show(output, name, sent, out)
-}
-
-fn ping_response(
-    output: &mut impl Write,
-    name: &[u8],
-    out: &mut [u8],
-    x: u32,
-    time: u32,
-) -> io::Result<()> {
-    let sent = answers::ping_response(out, x, time);
+    room: usize,
+    write: F,
+) -> io::Result<()>
+    requires { (room ≤ 900) × F.IsAlwaysCallable write }
+{
+    let mut out = [0xA5; 900];
+    let out = &mut out[..room];
+    let sent = write(out);
     show(output, name, sent, out)
 }
 
 fn starts(output: &mut impl Write) -> io::Result<()> {
-    start(
+    told(
         output,
         b"start-71",
-        &mut [0xA5; 900],
-        4096,
-        2500000,
-        2500000,
-        false,
+        900,
+        |out| answers::start_records(out, 4096, 2500000, 2500000, false),
     )?;
-    start(
+    told(
         output,
         b"start-114",
-        &mut [0xA5; 900],
-        4096,
-        2500000,
-        2500000,
-        true,
+        900,
+        |out| answers::start_records(out, 4096, 2500000, 2500000, true),
     )?;
-    start(
+    told(
         output,
         b"start-odd",
-        &mut [0xA5; 900],
-        1,
-        0,
-        4294967295,
-        true,
+        900,
+        |out| answers::start_records(out, 1, 0, 4294967295, true),
     )?;
-    start(
+    told(
         output,
         b"start-short",
-        &mut [0xA5; 70],
-        4096,
-        2500000,
-        2500000,
-        false,
+        70,
+        |out| answers::start_records(out, 4096, 2500000, 2500000, false),
     )?;
-    start(
+    told(
         output,
         b"start-short-done",
-        &mut [0xA5; 113],
-        4096,
-        2500000,
-        2500000,
-        true,
+        113,
+        |out| answers::start_records(out, 4096, 2500000, 2500000, true),
     )
 }
 
 fn creations(output: &mut impl Write) -> io::Result<()> {
-    created(
+    told(
         output,
         b"created",
-        &mut [0xA5; 900],
-        0x4010000000000000,
-        1,
-        0,
+        900,
+        |out| answers::stream_created(out, 0x4010000000000000, StreamId(1), 0),
     )?;
-    created(
+    told(
         output,
         b"created-last",
-        &mut [0xA5; 900],
-        0x7FF8000000000001,
-        4294967294,
-        4294967295,
+        900,
+        |out| answers::stream_created(out, 0x7FF8000000000001, StreamId(4294967294), 4294967295),
     )?;
-    created(
+    told(
         output,
         b"created-short",
-        &mut [0xA5; 41],
-        0x4010000000000000,
-        1,
-        0,
+        41,
+        |out| answers::stream_created(out, 0x4010000000000000, StreamId(1), 0),
     )
 }
 
 fn connects(output: &mut impl Write) -> io::Result<()> {
-    connect(
+    told(
         output,
         b"connect",
-        &mut [0xA5; 900],
-        0x3FF0000000000000,
-        word(b"FMS/3,0,1,1233"),
-        word(b"live"),
-        0,
-        5,
+        900,
+        |out| answers::connect_accepted(
+            out,
+            0x3FF0000000000000,
+            word(b"FMS/3,0,1,1233"),
+            word(b"live"),
+            0,
+            5,
+        ),
     )?;
-    connect(
+    told(
         output,
         b"connect-empty",
-        &mut [0xA5; 900],
-        0,
-        word(b""),
-        word(b""),
-        0xFFF0000000000001,
-        4294967295,
+        900,
+        |out| answers::connect_accepted(
+            out,
+            0,
+            word(b""),
+            word(b""),
+            0xFFF0000000000001,
+            4294967295,
+        ),
     )?;
-    connect(
+    told(
         output,
         b"connect-long",
-        &mut [0xA5; 900],
-        0x4000000000000000,
-        longest(b'v'),
-        longest(b'a'),
-        0x4008000000000000,
-        65536,
+        900,
+        |out| answers::connect_accepted(
+            out,
+            0x4000000000000000,
+            longest(b'v'),
+            longest(b'a'),
+            0x4008000000000000,
+            65536,
+        ),
     )?;
-    connect(
+    told(
         output,
         b"connect-short",
-        &mut [0xA5; 217],
-        0x3FF0000000000000,
-        word(b"FMS/3,0,1,1233"),
-        word(b"live"),
-        0,
-        5,
+        217,
+        |out| answers::connect_accepted(
+            out,
+            0x3FF0000000000000,
+            word(b"FMS/3,0,1,1233"),
+            word(b"live"),
+            0,
+            5,
+        ),
     )
 }
 
 fn publishes(output: &mut impl Write) -> io::Result<()> {
-    publish(output, b"publish", &mut [0xA5; 900], word(b"pin7"), 7, 1)?;
-    publish(
+    told(
+        output,
+        b"publish",
+        900,
+        |out| answers::publish_accepted(out, word(b"pin7"), 7, StreamId(1)),
+    )?;
+    told(
         output,
         b"publish-short",
-        &mut [0xA5; 170],
-        word(b"pin7"),
-        7,
-        1,
+        170,
+        |out| answers::publish_accepted(out, word(b"pin7"), 7, StreamId(1)),
     )?;
-    publish(
+    told(
         output,
         b"publish-empty",
-        &mut [0xA5; 900],
-        word(b""),
-        0,
-        4294967295,
+        900,
+        |out| answers::publish_accepted(out, word(b""), 0, StreamId(4294967295)),
     )?;
-    publish(
+    told(
         output,
         b"publish-long",
-        &mut [0xA5; 900],
-        longest(b'k'),
-        1,
-        2,
+        900,
+        |out| answers::publish_accepted(out, longest(b'k'), 1, StreamId(2)),
     )
 }
 
 fn plays(output: &mut impl Write) -> io::Result<()> {
-    play(output, b"play", &mut [0xA5; 900], word(b"pin7"), 9, 3)?;
-    play(output, b"play-short", &mut [0xA5; 370], word(b"pin7"), 9, 3)?;
-    play(
+    told(
+        output,
+        b"play",
+        900,
+        |out| answers::play_accepted(out, word(b"pin7"), 9, StreamId(3)),
+    )?;
+    told(
+        output,
+        b"play-short",
+        370,
+        |out| answers::play_accepted(out, word(b"pin7"), 9, StreamId(3)),
+    )?;
+    told(
         output,
         b"play-long",
-        &mut [0xA5; 900],
-        longest(b'k'),
-        16777216,
-        16,
+        900,
+        |out| answers::play_accepted(out, longest(b'k'), 16777216, StreamId(16)),
     )?;
-    finish(output, b"finish", &mut [0xA5; 900], word(b"pin7"), 11, 5)?;
-    finish(
+    told(
+        output,
+        b"finish",
+        900,
+        |out| answers::play_finished(out, word(b"pin7"), 11, StreamId(5)),
+    )?;
+    told(
         output,
         b"finish-short",
-        &mut [0xA5; 138],
-        word(b"pin7"),
-        11,
-        5,
+        138,
+        |out| answers::play_finished(out, word(b"pin7"), 11, StreamId(5)),
     )
 }
 
 fn errors(output: &mut impl Write) -> io::Result<()> {
-    error(
+    told(
         output,
         b"error",
-        &mut [0xA5; 900],
-        0x4014000000000000,
-        b"NetStream.Publish.Start",
-        b"Invalid publish arguments",
-        13,
-        1,
+        900,
+        |out| answers::error_record(
+            out,
+            0x4014000000000000,
+            b"NetStream.Publish.Start",
+            b"Invalid publish arguments",
+            13,
+            StreamId(1),
+        ),
     )?;
-    error(output, b"error-empty", &mut [0xA5; 900], 0, b"", b"", 0, 0)?;
-    error(
+    told(
+        output,
+        b"error-empty",
+        900,
+        |out| answers::error_record(out, 0, b"", b"", 0, StreamId(0)),
+    )?;
+    told(
         output,
         b"error-long",
-        &mut [0xA5; 900],
-        0,
-        &[b'c'; 256],
-        &[b'd'; 256],
-        1,
-        4294967295,
+        900,
+        |out| answers::error_record(out, 0, &[b'c'; 256], &[b'd'; 256], 1, StreamId(4294967295)),
     )?;
-    error(
+    told(
         output,
         b"error-short",
-        &mut [0xA5; 123],
-        0x4014000000000000,
-        b"NetStream.Publish.Start",
-        b"Invalid publish arguments",
-        13,
-        1,
+        123,
+        |out| answers::error_record(
+            out,
+            0x4014000000000000,
+            b"NetStream.Publish.Start",
+            b"Invalid publish arguments",
+            13,
+            StreamId(1),
+        ),
     )
 }
 
 fn medias(output: &mut impl Write) -> io::Result<()> {
-    media(
+    told(
         output,
         b"audio",
-        &mut [0xA5; 900],
-        8,
-        1000,
-        1,
-        false,
-        b"\x01\x02\x03",
+        900,
+        |out| answers::media_record(out, 8, 1000, StreamId(1), false, b"\x01\x02\x03"),
     )?;
-    media(
+    told(
         output,
         b"video",
-        &mut [0xA5; 900],
-        9,
-        4294967295,
-        7,
-        true,
-        b"\x00\xFF",
+        900,
+        |out| answers::media_record(out, 9, 4294967295, StreamId(7), true, b"\x00\xFF"),
     )?;
-    media(output, b"media-empty", &mut [0xA5; 900], 9, 0, 1, true, b"")?;
-    media(
+    told(
+        output,
+        b"media-empty",
+        900,
+        |out| answers::media_record(out, 9, 0, StreamId(1), true, b""),
+    )?;
+    told(
         output,
         b"media-short",
-        &mut [0xA5; 15],
-        8,
-        1000,
-        1,
-        false,
-        b"\x01\x02\x03",
+        15,
+        |out| answers::media_record(out, 8, 1000, StreamId(1), false, b"\x01\x02\x03"),
     )?;
-    media(
+    told(
         output,
         b"media-shorter",
-        &mut [0xA5; 12],
-        8,
-        1000,
-        1,
-        false,
-        b"\x01\x02\x03",
+        12,
+        |out| answers::media_record(out, 8, 1000, StreamId(1), false, b"\x01\x02\x03"),
     )
 }
 
 fn pings(output: &mut impl Write) -> io::Result<()> {
-    ping_request(output, b"ping-request", &mut [0xA5; 900], 17)?;
-    ping_response(output, b"ping-response", &mut [0xA5; 900], 305419896, 19)?;
-    ping_request(output, b"ping-short", &mut [0xA5; 18], 17)
+    told(
+        output,
+        b"ping-request",
+        900,
+        |out| answers::ping_request(out, 17),
+    )?;
+    told(
+        output,
+        b"ping-response",
+        900,
+        |out| answers::ping_response(out, 305419896, 19),
+    )?;
+    told(
+        output,
+        b"ping-short",
+        18,
+        |out| answers::ping_request(out, 17),
+    )
 }
 
 fn times(output: &mut impl Write) -> io::Result<()> {

@@ -1,3 +1,4 @@
+pub mod StateLaws
 pub mod RefusalTheorems
 pub mod FitsLaws
 pub mod SoundTheorems

@@ -7,7 +7,7 @@ use crate::session::{Session, SessionState};
 use tables::{Request, Stream, append, change, no_request, no_stream, remove};
 use text::{Name, RequestId, StreamId};
 
-// The stream and the request stand beside it, since the host's steps hand them on apart.
+// The arrays are written by the effect alone (crates/written), so the stream and the request stand beside it.
 #[derive(Clone, Copy, Debug, PartialEq, Eq)]
 pub enum Effect {
     Nothing,

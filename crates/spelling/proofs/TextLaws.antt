@@ -1,11 +1,14 @@
 -- Text put behind text, and the loops over a word and over bytes.
-use mathlib.Core.Path.{◌≡◌, refl, sym, ap, ◌∙◌}
-use Prim.Native.Nat.{ℕ, ◌/◌}
+use mathlib.Core.Path.{◌≡◌, refl, sym, ap, ap₂, ◌∙◌}
+use Prim.Native.Nat.{ℕ, ◌+◌, ◌/◌, ◌%◌, ◌<◌}
+use native.Mathlib.Numerals.{add-one}
 use native.Mathlib.Omega.{arith}
 use mathlib.Core.List.{List, [], ◌∷◌, ◌++◌}
+use lib.ListN.{length, drop, get_or}
+use lib.Seq.{drop-cons}
 use Rattle.std.specs.Int.{to_be_bytes, w32, w64}
 use Rattle.numbers.specs.Fields.{bytes_of}
-use Rattle.spelling.specs.Text.{put_all, put_one}
+use Rattle.spelling.specs.Text.{glyph, hex_of, put_all, put_one}
 
 abbrev Put : Type 0
 Put = ℕ × List ℕ
@@ -32,6 +35,12 @@ put_then s t p q r e f = f ∙ (ap (put_all t) e ∙ sym (put_more s t p))
 -- the text that is put is another way to say this one
 pub put_as : (s t : List ℕ) (p q : Put) → q ≡ put_all s p → s ≡ t → q ≡ put_all t p
 put_as s t p q e k = e ∙ ap (λ (u : List ℕ). put_all u p) k
+
+-- ---- a turn of the loop over bytes: what is left, put behind what stands, gives the whole
+pub hex_turn : (part : List ℕ) (i : ℕ) (p w q r : Put) (g l : ℕ) → i < length part → g ≡ glyph (get_or part i 0 / 16 % 16) → l ≡ glyph (get_or part i 0 % 16) → q ≡ put_one g p → r ≡ put_one l q → put_all (hex_of (drop i part)) p ≡ w → put_all (hex_of (drop (i + 1) part)) r ≡ w
+unfolding put_all hex_of
+hex_turn part i p w q r g l h a b e f k =
+    ap (put_all (hex_of (drop (i + 1) part))) (f ∙ ap₂ put_one b (e ∙ ap (λ (x : ℕ). put_one x p) a)) ∙ (sym (rw (drop-cons part i 0 h, add-one i)) ∙ k)
 
 -- ---- the bytes of a number, as std gives them
 pub eight_bytes : (x : ℕ) → to_be_bytes w64 x ≡ bytes_of 8 x

@@ -1,7 +1,5 @@
 -- The words of a trace for the cases of modes, starts, durations and flags.
-use Rattle.std.specs.Prelude.{ℕ, Bool, true, false, List}
-use Rattle.numbers.specs.declared.play.PlayDuration.{PlayDuration}
-use Rattle.numbers.specs.declared.play.PlayDuration.TheVariants.{Unlimited, Seconds}
+use Rattle.std.specs.Prelude.{ℕ, Bool, true, false, List, Option, Some, None}
 use Rattle.numbers.specs.declared.play.PlayStartValue.{PlayStartValue}
 use Rattle.numbers.specs.declared.play.PlayStartValue.TheVariants.{LiveOrRecorded, LiveOnly, StartTimeInSeconds}
 use Rattle.text.specs.Words.{text}
@@ -22,9 +20,9 @@ start_text LiveOnly = text "live-only"
 start_text (StartTimeInSeconds n) = decimal_text n
 
 -- "duration is `none` or a number"
-abbrev pub duration_text : PlayDuration → List ℕ
-duration_text Unlimited = text "none"
-duration_text (Seconds n) = decimal_text n
+abbrev pub duration_text : Option ℕ → List ℕ
+duration_text None = text "none"
+duration_text (Some n) = decimal_text n
 
 -- "reset and stereo are 0 or 1"
 abbrev pub flag_text : Bool → List ℕ

@@ -3,7 +3,7 @@ ghost use Rattle.std.specs.Prelude.{◌≡◌, ◌%◌};
 ghost use Rattle.numbers.specs.Fields.{bytes_of};
 ghost use Rattle.spelling.specs.Text.{decimal_text, glyph as glyph_of, hex_of, hex_text, name_field, number_field, put_all, put_one};
 
-use text::{Name, text_of};
+use text::Name;
 
 #[tactic(auto, unfolding(crate::specs::Text::put_one))]
 pub fn put(out: &mut [u8], at: usize, x: u8) -> usize
@@ -96,5 +96,5 @@ pub fn put_name(out: &mut [u8], at: usize, field: &[u8], name: Name) -> usize
     ensures { (result, out.new) ≡ put_all (name_field field.now name) (at, out.old) }
 {
     let to = put_word(out, at, field);
-    put_text(out, to, text_of(&name.bytes, name.len))
+    put_text(out, to, name.text())
 }

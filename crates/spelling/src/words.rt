@@ -5,7 +5,7 @@ ghost use Rattle.spelling.specs.Text.{put_all};
 ghost use Rattle.spelling.specs.Words.{duration_text, flag_text, mode_text, start_text};
 
 use crate::bytes::{put_decimal, put_word};
-use numbers::{PlayDuration, PlayStartValue};
+use numbers::PlayStartValue;
 use text::PublishMode;
 use wishes::Action;
 
@@ -39,12 +39,12 @@ pub fn put_start(out: &mut [u8], at: usize, start: PlayStartValue) -> usize
     }
 }
 
-pub fn put_duration(out: &mut [u8], at: usize, duration: PlayDuration) -> usize
+pub fn put_duration(out: &mut [u8], at: usize, duration: Option<u32>) -> usize
     ensures { (result, out.new) ≡ put_all (duration_text duration) (at, out.old) }
 {
     match duration {
-        PlayDuration::Unlimited => put_word(out, at, b"none"),
-        PlayDuration::Seconds(n) => put_decimal(out, at, u64::from(n)),
+        None => put_word(out, at, b"none"),
+        Some(n) => put_decimal(out, at, u64::from(n)),
     }
 }
 

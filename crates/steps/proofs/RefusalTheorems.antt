@@ -20,7 +20,6 @@ use Rattle.wishes.specs.declared.wish.PublishArguments.{PublishArguments}
 use Rattle.wishes.specs.declared.wish.PublishFault.{PublishFault}
 use Rattle.wishes.specs.declared.wish.Wish.{Wish}
 use Rattle.wishes.specs.declared.wish.Wish.TheVariants.{Nothing, Connect, CreateStream, CloseStream, DeleteStream, Publish, Play, Metadata, PingRequest, PingResponse}
-use Rattle.session.specs.declared.decision.CommandFault.{CommandFault}
 use Rattle.session.specs.declared.decision.Decision.{Decision}
 use Rattle.session.specs.Desk.{desk_of}
 use Rattle.session.specs.declared.changes.Change.{Change}

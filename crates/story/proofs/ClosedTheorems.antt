@@ -1,11 +1,10 @@
 -- "frames filed under a closed key": after a close or a delete, and until a publish is accepted again, there are none.
 use mathlib.Core.Path.{◌≡◌, refl, sym, ap, ◌∙◌}
 use Prim.Native.Nat.{ℕ}
-use native.Mathlib.Omega.{arith}
 use mathlib.Core.Bool.{Bool, true, false, true≢false}
 use mathlib.Core.List.{List, [], ◌∷◌, ◌++◌}
-use mathlib.Core.Option.{Option, some, none}
 use lib.Dec.{eqb}
+use Rattle.std.specs.Prelude.{Option, Some, None, Result, Ok, Err}
 use Rattle.numbers.specs.Choose.{pick}
 use Rattle.numbers.proofs.ChooseLaws.{pick_elim}
 use Rattle.text.specs.declared.ids.StreamId.{StreamId}
@@ -15,13 +14,11 @@ use Rattle.tables.specs.declared.requests.RequestKind.TheVariants.{Connect, Publ
 use Rattle.tables.specs.declared.streams.Stream.{Stream}
 use Rattle.tables.specs.declared.streams.StreamState.{StreamState}
 use Rattle.tables.specs.declared.streams.StreamState.TheVariants.{Created, Publishing, Playing, Completed}
-use Rattle.wishes.specs.declared.outcome.Outcome.{Outcome}
-use Rattle.wishes.specs.declared.outcome.Outcome.TheVariants.{Done}
-use Rattle.wishes.specs.declared.wish.Want.{Want}
-use Rattle.wishes.specs.declared.wish.Want.TheVariants.{Nothing, Refused, CreateStream, CloseStream, DeleteStream, Metadata, PingRequest, PingResponse}
-use Rattle.wishes.specs.declared.wish.Want.TheVariants.{Connect as ConnectWant, Publish as PublishWant, Play as PlayWant}
+use Rattle.wishes.specs.Outcome.{Outcome}
+use Rattle.wishes.specs.declared.outcome.Refusal.{Refusal}
 use Rattle.wishes.specs.declared.wish.Wish.{Wish}
-use Rattle.session.specs.Desk.{desk_of}
+use Rattle.wishes.specs.declared.wish.Wish.TheVariants.{Nothing, CreateStream, CloseStream, DeleteStream, Metadata, PingRequest, PingResponse}
+use Rattle.wishes.specs.declared.wish.Wish.TheVariants.{Connect as ConnectWish, Publish as PublishWish, Play as PlayWish}
 use Rattle.session.specs.State.{session_sound}
 use Rattle.session.specs.declared.changes.Change.{Change}
 use Rattle.session.specs.declared.decision.Decision.{Decision}
@@ -29,13 +26,13 @@ use Rattle.session.specs.declared.decision.Event.{Event}
 use Rattle.session.specs.declared.decision.Reply.TheVariants.{Nothing as NoReply}
 use Rattle.session.specs.declared.desk.Desk.{Desk}
 use Rattle.session.specs.declared.session.Session.{Session}
-use Rattle.streams.specs.Streams.{ended, no_frame, on_stream}
-use Rattle.steps.specs.Deciding.{decide, decide_want, decided, subject_of}
+use Rattle.streams.specs.Streams.{ended, known, on_known, on_stream}
+use Rattle.steps.specs.Deciding.{decide, decided}
 use Rattle.story.specs.Steps.{Call, Response, accept, finish, media, message, reject, send_audio, send_metadata, send_ping, send_video, step}
 use Rattle.story.specs.Doings.{Doing, Wants, Shows, Rests, Accepts, Rejects, Finishes, Sends, doing}
 use Rattle.story.specs.Runs.{Start, Told, after, told}
 use Rattle.story.specs.History.{Filed, Last, Creation, Closing, Deletion, PublishAccepted, Finishing, acceptance, accepting, done, effect, effect_of_want, ending, filed, joined, last_effective, stands}
-use Rattle.story.specs.Stories.{NoneAccepts, accepts_publish, ends, ends_want, frame_in, is_publish, publish_on}
+use Rattle.story.specs.Stories.{NoneAccepts, accepts_publish, ends, ends_want, frame_in, is_publish, nothing_raised, publish_on}
 use Rattle.story.proofs.DecisionLaws.{decision_at}
 use Rattle.story.proofs.StepLaws.{Constants, answer_by, constants_of, sent_nothing, step_answer}
 use Rattle.story.proofs.RunLaws.{good_after}
@@ -43,7 +40,7 @@ use Rattle.story.proofs.StoryTheorems.{or_nothing}
 
 -- ---- a close or a delete is never refused: it sends nothing
 abbrev Silent : Decision → Type 0
-Silent d = (d.outcome ≡ Done) × (d.reply ≡ NoReply)
+Silent d = (d.outcome ≡ Ok tt) × (d.reply ≡ NoReply)
 
 end_silent : (st : StreamState) (app key : Name) (c : Change) → Silent (ended st app key c)
 end_silent Created app key c = (refl, refl)
@@ -51,26 +48,30 @@ end_silent Publishing app key c = (refl, refl)
 end_silent Playing app key c = (refl, refl)
 end_silent Completed app key c = (refl, refl)
 
+known_silent : (o : Option Stream) (f : Stream → Decision) → ((e : Stream) → Silent (f e)) → Silent (on_known o f)
+known_silent (Some e) f k = k e
+known_silent None f k = (refl, refl)
+
 on_silent : (d : Desk) (f : Stream → Decision) → ((e : Stream) → Silent (f e)) → Silent (on_stream d f)
 unfolding on_stream
-on_silent d f k = pick_elim Silent _ _ d.connected (λ b. pick_elim Silent _ _ d.seen.found (λ c. k d.seen.stream) (λ c. (refl, refl))) (λ b. (refl, refl))
+on_silent d f k = known_silent (known d) f k
 
-want_silent : (s : Session) (x : ℕ) (y : StreamId) (w : Wish) (v : Want) → ends_want x v ≡ true → Silent (decide_want v (desk_of s (subject_of v y)) y w.fits w.name w.metadata)
-want_silent s x y w Nothing q = absurd (true≢false (sym q))
-want_silent s x y w (Refused o) q = absurd (true≢false (sym q))
-want_silent s x y w (ConnectWant t e) q = absurd (true≢false (sym q))
-want_silent s x y w (CreateStream t) q = absurd (true≢false (sym q))
-want_silent s x y w (CloseStream z) q = on_silent _ _ (λ e. end_silent e.state _ e.key _)
-want_silent s x y w (DeleteStream z) q = on_silent _ _ (λ e. end_silent e.state _ e.key _)
-want_silent s x y w (PublishWant t a) q = absurd (true≢false (sym q))
-want_silent s x y w (PlayWant t a) q = absurd (true≢false (sym q))
-want_silent s x y w Metadata q = absurd (true≢false (sym q))
-want_silent s x y w (PingRequest v) q = absurd (true≢false (sym q))
-want_silent s x y w (PingResponse v) q = absurd (true≢false (sym q))
+want_silent : (s : Session) (x : ℕ) (y : StreamId) (v : Result Wish Refusal) → ends_want x v ≡ true → Silent (decided s y v)
+unfolding decided decide
+want_silent s x y (Ok Nothing) q = absurd (true≢false (sym q))
+want_silent s x y (Err r) q = absurd (true≢false (sym q))
+want_silent s x y (Ok (ConnectWish t e app)) q = absurd (true≢false (sym q))
+want_silent s x y (Ok (CreateStream t)) q = absurd (true≢false (sym q))
+want_silent s x y (Ok (CloseStream z)) q = on_silent _ _ (λ e. end_silent e.state _ e.key _)
+want_silent s x y (Ok (DeleteStream z)) q = on_silent _ _ (λ e. end_silent e.state _ e.key _)
+want_silent s x y (Ok (PublishWish t a)) q = absurd (true≢false (sym q))
+want_silent s x y (Ok (PlayWish t a)) q = absurd (true≢false (sym q))
+want_silent s x y (Ok (Metadata read)) q = absurd (true≢false (sym q))
+want_silent s x y (Ok (PingRequest v)) q = absurd (true≢false (sym q))
+want_silent s x y (Ok (PingResponse v)) q = absurd (true≢false (sym q))
 
 decides_silent : (s : Session) (x : ℕ) (g : Doing) → ends x g ≡ true → Silent (decision_at s g)
-unfolding decided decide
-decides_silent s x (Wants y w) q = want_silent s x y w w.want q
+decides_silent s x (Wants y w) q = want_silent s x y w q
 decides_silent s x (Shows y e) q = absurd (true≢false (sym q))
 decides_silent s x Rests q = absurd (true≢false (sym q))
 decides_silent s x (Accepts n) q = absurd (true≢false (sym q))
@@ -78,7 +79,7 @@ decides_silent s x (Rejects n b) q = absurd (true≢false (sym q))
 decides_silent s x (Finishes y) q = absurd (true≢false (sym q))
 decides_silent s x (Sends y) q = absurd (true≢false (sym q))
 
-answers_done : (x : ℕ) (c : Call) (k : Constants) (d : Decision) → ends x (doing c) ≡ true → Silent d → (answer_by k d c).outcome ≡ Done
+answers_done : (x : ℕ) (c : Call) (k : Constants) (d : Decision) → ends x (doing c) ≡ true → Silent d → (answer_by k d c).outcome ≡ Ok tt
 answers_done x (message type y t clock body out) k d q z = rw (z.1, sent_nothing out) z.0
 answers_done x (media kind y t) k d q z = z.0
 answers_done x (accept n clock out) k d q z = rw (z.1, sent_nothing out) z.0
@@ -89,7 +90,7 @@ answers_done x (send_audio y t droppable body out) k d q z = absurd (true≢fals
 answers_done x (send_video y t droppable body out) k d q z = absurd (true≢false (sym q))
 answers_done x (send_ping clock out) k d q z = absurd (true≢false (sym q))
 
-end_done : (s : Session) → session_sound s ≡ true → (x : ℕ) (c : Call) → ends x (doing c) ≡ true → (step s c).0.outcome ≡ Done
+end_done : (s : Session) → session_sound s ≡ true → (x : ℕ) (c : Call) → ends x (doing c) ≡ true → (step s c).0.outcome ≡ Ok tt
 end_done s g x c q =
     ap (λ (r : Response). r.outcome) (step_answer s g c) ∙ answers_done x c (constants_of s) (decision_at s (doing c)) q (decides_silent s x (doing c) q)
 
@@ -98,47 +99,47 @@ abbrev Off : Last → Type 0
 Off l = (key : Name) → l ≡ PublishAccepted key → ⊥
 
 end_off : (new : Last) → Off new → (j : Option Name) (l : Last) → Off l → Off (ending new j l)
-end_off new n none l o = o
-end_off new n (some a) l o = pick_elim Off _ _ (stands l) (λ b. n) (λ b. o)
+end_off new n None l o = o
+end_off new n (Some a) l o = pick_elim Off _ _ (stands l) (λ b. n) (λ b. o)
 
 off_closing : Off Closing
-off_closing k e = let z : ◌≡◌ {A = ℕ} 0 1 = cc in omega arith
+off_closing k e = cc
 
 off_deletion : Off Deletion
-off_deletion k e = let z : ◌≡◌ {A = ℕ} 0 1 = cc in omega arith
+off_deletion k e = cc
 
 off_creation : Off Creation
-off_creation k e = let z : ◌≡◌ {A = ℕ} 0 1 = cc in omega arith
+off_creation k e = cc
 
 off_finishing : Off Finishing
-off_finishing k e = let z : ◌≡◌ {A = ℕ} 0 1 = cc in omega arith
+off_finishing k e = cc
 
 -- a close or a delete while connected leaves none, whatever stood there
 not_standing : (l : Last) → stands l ≡ false → Off l
 not_standing l q key e = true≢false (sym (ap stands e) ∙ q)
 
-ended_off : (new : Last) → Off new → (a : Name) (l : Last) → Off (ending new (some a) l)
+ended_off : (new : Last) → Off new → (a : Name) (l : Last) → Off (ending new (Some a) l)
 ended_off new n a l = pick_elim Off _ _ (stands l) (λ b. n) (λ b. not_standing l b)
 
-by_end : (b : Bool) → b ≡ true → (new : Last) → Off new → (a : Name) (l : Last) → Off (pick b (ending new (some a) l) l)
+by_end : (b : Bool) → b ≡ true → (new : Last) → Off new → (a : Name) (l : Last) → Off (pick b (ending new (Some a) l) l)
 by_end true q new n a l = ended_off new n a l
 by_end false q new n a l = absurd (true≢false (sym q))
 
-ends_off : (x : ℕ) (v : Want) (h : List Told) (a : Name) (l : Last) → ends_want x v ≡ true → joined h ≡ some a → Off (effect_of_want x v h l)
-ends_off x Nothing h a l q j = absurd (true≢false (sym q))
-ends_off x (Refused o) h a l q j = absurd (true≢false (sym q))
-ends_off x (ConnectWant t e) h a l q j = absurd (true≢false (sym q))
-ends_off x (CreateStream t) h a l q j = absurd (true≢false (sym q))
-ends_off x (CloseStream y) h a l q j = rw j (by_end (eqb y.0 x) q Closing off_closing a l)
-ends_off x (DeleteStream y) h a l q j = rw j (by_end (eqb y.0 x) q Deletion off_deletion a l)
-ends_off x (PublishWant t b) h a l q j = absurd (true≢false (sym q))
-ends_off x (PlayWant t b) h a l q j = absurd (true≢false (sym q))
-ends_off x Metadata h a l q j = absurd (true≢false (sym q))
-ends_off x (PingRequest v) h a l q j = absurd (true≢false (sym q))
-ends_off x (PingResponse v) h a l q j = absurd (true≢false (sym q))
+ends_off : (x : ℕ) (v : Result Wish Refusal) (h : List Told) (a : Name) (l : Last) → ends_want x v ≡ true → joined h ≡ Some a → Off (effect_of_want x v h l)
+ends_off x (Ok Nothing) h a l q j = absurd (true≢false (sym q))
+ends_off x (Err o) h a l q j = absurd (true≢false (sym q))
+ends_off x (Ok (ConnectWish t e app)) h a l q j = absurd (true≢false (sym q))
+ends_off x (Ok (CreateStream t)) h a l q j = absurd (true≢false (sym q))
+ends_off x (Ok (CloseStream y)) h a l q j = rw j (by_end (eqb y.0 x) q Closing off_closing a l)
+ends_off x (Ok (DeleteStream y)) h a l q j = rw j (by_end (eqb y.0 x) q Deletion off_deletion a l)
+ends_off x (Ok (PublishWish t b)) h a l q j = absurd (true≢false (sym q))
+ends_off x (Ok (PlayWish t b)) h a l q j = absurd (true≢false (sym q))
+ends_off x (Ok (Metadata read)) h a l q j = absurd (true≢false (sym q))
+ends_off x (Ok (PingRequest v)) h a l q j = absurd (true≢false (sym q))
+ends_off x (Ok (PingResponse v)) h a l q j = absurd (true≢false (sym q))
 
-effect_ends : (x : ℕ) (g : Doing) (h : List Told) (a : Name) (l : Last) → ends x g ≡ true → joined h ≡ some a → Off (effect x g Done h l)
-effect_ends x (Wants y w) h a l q j = ends_off x w.want h a l q j
+effect_ends : (x : ℕ) (g : Doing) (h : List Told) (a : Name) (l : Last) → ends x g ≡ true → joined h ≡ Some a → Off (effect x g (Ok tt) h l)
+effect_ends x (Wants y w) h a l q j = ends_off x w h a l q j
 effect_ends x (Shows y e) h a l q j = absurd (true≢false (sym q))
 effect_ends x Rests h a l q j = absurd (true≢false (sym q))
 effect_ends x (Accepts n) h a l q j = absurd (true≢false (sym q))
@@ -147,23 +148,23 @@ effect_ends x (Finishes y) h a l q j = absurd (true≢false (sym q))
 effect_ends x (Sends y) h a l q j = absurd (true≢false (sym q))
 
 -- ---- and it stays so
-want_off : (x : ℕ) (v : Want) (h : List Told) (l : Last) → Off l → Off (effect_of_want x v h l)
-want_off x Nothing h l o = o
-want_off x (Refused p) h l o = o
-want_off x (ConnectWant t e) h l o = o
-want_off x (CreateStream t) h l o = pick_elim Off _ _ (eqb _ x) (λ b. off_creation) (λ b. o)
-want_off x (CloseStream y) h l o = pick_elim Off _ _ (eqb y.0 x) (λ b. end_off Closing off_closing (joined h) l o) (λ b. o)
-want_off x (DeleteStream y) h l o = pick_elim Off _ _ (eqb y.0 x) (λ b. end_off Deletion off_deletion (joined h) l o) (λ b. o)
-want_off x (PublishWant t a) h l o = o
-want_off x (PlayWant t a) h l o = o
-want_off x Metadata h l o = o
-want_off x (PingRequest v) h l o = o
-want_off x (PingResponse v) h l o = o
+want_off : (x : ℕ) (v : Result Wish Refusal) (h : List Told) (l : Last) → Off l → Off (effect_of_want x v h l)
+want_off x (Ok Nothing) h l o = o
+want_off x (Err p) h l o = o
+want_off x (Ok (ConnectWish t e app)) h l o = o
+want_off x (Ok (CreateStream t)) h l o = pick_elim Off _ _ (eqb _ x) (λ b. off_creation) (λ b. o)
+want_off x (Ok (CloseStream y)) h l o = pick_elim Off _ _ (eqb y.0 x) (λ b. end_off Closing off_closing (joined h) l o) (λ b. o)
+want_off x (Ok (DeleteStream y)) h l o = pick_elim Off _ _ (eqb y.0 x) (λ b. end_off Deletion off_deletion (joined h) l o) (λ b. o)
+want_off x (Ok (PublishWish t a)) h l o = o
+want_off x (Ok (PlayWish t a)) h l o = o
+want_off x (Ok (Metadata read)) h l o = o
+want_off x (Ok (PingRequest v)) h l o = o
+want_off x (Ok (PingResponse v)) h l o = o
 
 kind_off : (k : RequestKind) (name : Name) (l : Last) → is_publish k ≡ false → Off l → Off (acceptance k name l)
 kind_off Connect name l n o = o
 kind_off Publish name l n o = absurd (true≢false n)
-kind_off Play name l n o = λ key e. let z : ◌≡◌ {A = ℕ} 0 1 = cc in omega arith
+kind_off Play name l n o = λ key e. cc
 
 ask_off : (b : Bool) (k : RequestKind) (name : Name) (l : Last) → pick b (is_publish k) false ≡ false → Off l → Off (pick b (acceptance k name l) l)
 ask_off true k name l n o = kind_off k name l n o
@@ -171,11 +172,11 @@ ask_off false k name l n o = o
 
 accept_off : (b : Bool) (x : ℕ) (f : Option Filed) (l : Last) → pick b (publish_on x f) false ≡ false → Off l → Off (pick b (accepting x f l) l)
 accept_off false x f l n o = o
-accept_off true x none l n o = o
-accept_off true x (some f) l n o = ask_off (eqb f.stream x) f.kind f.name l n o
+accept_off true x None l n o = o
+accept_off true x (Some f) l n o = ask_off (eqb f.stream x) f.kind f.name l n o
 
 effect_off : (x : ℕ) (g : Doing) (r : Outcome) (h : List Told) (l : Last) → accepts_publish x g r h ≡ false → Off l → Off (effect x g r h l)
-effect_off x (Wants y w) r h l n o = pick_elim Off _ _ (done r) (λ b. want_off x w.want h l o) (λ b. o)
+effect_off x (Wants y w) r h l n o = pick_elim Off _ _ (done r) (λ b. want_off x w h l o) (λ b. o)
 effect_off x (Shows y e) r h l n o = o
 effect_off x Rests r h l n o = o
 effect_off x (Accepts m) r h l n o = accept_off (done r) x (filed m.0 h) l n o
@@ -191,11 +192,11 @@ still_off b x (c ∷ newer) older n o =
 
 -- a connect was accepted before; then x is closed or deleted, and no later step accepts a publish on x: audio or video on x raises nothing
 pub closed_files_nothing : (b : Start) (newer : List Call) (c : Call) (older : List Call) (x : StreamId) (app : Name)
-    → joined (told b older) ≡ some app → ends x.0 (doing c) ≡ true → NoneAccepts b x.0 newer (c ∷ older)
-    → (m : Call) (e : Event) → doing m ≡ Shows x e → frame_in (step (after b (newer ++ c ∷ older)) m).0 ≡ no_frame
+    → joined (told b older) ≡ Some app → ends x.0 (doing c) ≡ true → NoneAccepts b x.0 newer (c ∷ older)
+    → (m : Call) (e : Event) → doing m ≡ Shows x e → frame_in (step (after b (newer ++ c ∷ older)) m).0 ≡ nothing_raised
 unfolding told last_effective
 closed_files_nothing b newer c older x app j q n m e w =
-    let d : (step (after b older) c).0.outcome ≡ Done = end_done (after b older) (good_after b older).sound x.0 c q in
+    let d : (step (after b older) c).0.outcome ≡ Ok tt = end_done (after b older) (good_after b older).sound x.0 c q in
     let h = told b older in
     let z : Off (effect x.0 (doing c) (step (after b older) c).0.outcome h (last_effective x.0 h)) = rw d (effect_ends x.0 (doing c) h app (last_effective x.0 h) q j) in
     or_nothing b (newer ++ c ∷ older) m x e w (still_off b x.0 newer (c ∷ older) n z)

@@ -3,16 +3,17 @@ use mathlib.Core.Path.{◌≡◌, sym, ap}
 use Prim.Native.Nat.{ℕ}
 use mathlib.Core.Bool.{Bool}
 use mathlib.Core.List.{List, []}
+use Rattle.std.specs.Prelude.{Option, Result}
 use Rattle.text.specs.declared.ids.RequestId.{RequestId}
 use Rattle.text.specs.declared.ids.StreamId.{StreamId}
 use Rattle.metadata.specs.declared.metadata.StreamMetadata.{StreamMetadata}
+use Rattle.wishes.specs.declared.outcome.Refusal.{Refusal}
 use Rattle.session.specs.declared.session.Session.{Session}
+use Rattle.streams.specs.declared.streams.Frame.{Frame}
 use Rattle.sending.specs.Sends.{sends_media, sends_metadata, sends_ping}
-use Rattle.sending.specs.declared.answer.PingAnswer.{PingAnswer}
-use Rattle.sending.specs.declared.answer.SendAnswer.{SendAnswer}
+use Rattle.sending.specs.declared.sends.PingSent.{PingSent}
 use Rattle.replies.specs.declared.answer.Answer.{Answer}
 use Rattle.messages.specs.Messages.{handle_media, handle_message}
-use Rattle.messages.specs.declared.messages.MediaAnswer.{MediaAnswer}
 use Rattle.messages.specs.declared.messages.MediaKind.{MediaKind}
 use Rattle.calls.specs.Calls.{accepting, finishes, rejecting, starting}
 use Rattle.story.specs.Steps.{accept, answering, finish, media, message, pinging_of, reject, send_audio, send_metadata, send_ping, send_video, sending_of, showing, step}
@@ -38,27 +39,27 @@ module _ (s : Session) where
     unfolding step
     finish_playing_is x clock out e = ap answering (sym e)
 
-  pub handle_media_is : (r : MediaAnswer) (kind : MediaKind) (x : StreamId) (timestamp : ℕ) → r ≡ handle_media s kind x timestamp → step s (media kind x timestamp) ≡ showing s r
+  pub handle_media_is : (r : Result (Option Frame) Refusal) (kind : MediaKind) (x : StreamId) (timestamp : ℕ) → r ≡ handle_media s kind x timestamp → step s (media kind x timestamp) ≡ showing s r
   unfolding step
   handle_media_is r kind x timestamp e = ap (showing s) (sym e)
 
-  module _ (r : SendAnswer) (o : List ℕ) where
+  module _ (r : Result ℕ Refusal) (o : List ℕ) where
     pub send_metadata_is : (x : StreamId) (m : StreamMetadata) (clock : ℕ) (out : List ℕ)
-        → ◌≡◌ {A = SendAnswer × List ℕ} (r, o) (sends_metadata s x m clock out) → step s (send_metadata x m clock out) ≡ sending_of s (r, o)
+        → ◌≡◌ {A = Result ℕ Refusal × List ℕ} (r, o) (sends_metadata s x m clock out) → step s (send_metadata x m clock out) ≡ sending_of s (r, o)
     unfolding step
     send_metadata_is x m clock out e = ap (sending_of s) (sym e)
 
     pub send_audio_data_is : (x : StreamId) (timestamp : ℕ) (droppable : Bool) (body out : List ℕ)
-        → ◌≡◌ {A = SendAnswer × List ℕ} (r, o) (sends_media 8 s x timestamp droppable body out) → step s (send_audio x timestamp droppable body out) ≡ sending_of s (r, o)
+        → ◌≡◌ {A = Result ℕ Refusal × List ℕ} (r, o) (sends_media 8 s x timestamp droppable body out) → step s (send_audio x timestamp droppable body out) ≡ sending_of s (r, o)
     unfolding step
     send_audio_data_is x timestamp droppable body out e = ap (sending_of s) (sym e)
 
     pub send_video_data_is : (x : StreamId) (timestamp : ℕ) (droppable : Bool) (body out : List ℕ)
-        → ◌≡◌ {A = SendAnswer × List ℕ} (r, o) (sends_media 9 s x timestamp droppable body out) → step s (send_video x timestamp droppable body out) ≡ sending_of s (r, o)
+        → ◌≡◌ {A = Result ℕ Refusal × List ℕ} (r, o) (sends_media 9 s x timestamp droppable body out) → step s (send_video x timestamp droppable body out) ≡ sending_of s (r, o)
     unfolding step
     send_video_data_is x timestamp droppable body out e = ap (sending_of s) (sym e)
 
-  pub send_ping_request_is : (r : PingAnswer) (o : List ℕ) (clock : ℕ) (out : List ℕ) → ◌≡◌ {A = PingAnswer × List ℕ} (r, o) (sends_ping s clock out) → step s (send_ping clock out) ≡ pinging_of s (r, o)
+  pub send_ping_request_is : (r : Result PingSent Refusal) (o : List ℕ) (clock : ℕ) (out : List ℕ) → ◌≡◌ {A = Result PingSent Refusal × List ℕ} (r, o) (sends_ping s clock out) → step s (send_ping clock out) ≡ pinging_of s (r, o)
   unfolding step
   send_ping_request_is r o clock out e = ap (pinging_of s) (sym e)
 

@@ -3,12 +3,13 @@ use mathlib.Core.Path.{◌≡◌, refl, sym, ap, ap₂, ◌∙◌}
 use Prim.Native.Nat.{ℕ, zero, suc, ◌+◌, ◌≤◌}
 use native.Mathlib.Omega.{arith}
 use mathlib.Core.List.{List, [], ◌∷◌, ◌++◌}
-use mathlib.Core.Option.{Option, some}
 use borrow.Author.Tests.{eq-eqb, ne_eqb}
+use Rattle.std.specs.Prelude.{Option, Some, Result, Ok, Err}
 use Rattle.numbers.proofs.ChooseLaws.{pick_elim}
 use Rattle.text.specs.declared.ids.StreamId.{StreamId}
-use Rattle.wishes.specs.declared.wish.Want.{Want}
-use Rattle.wishes.specs.declared.wish.Want.TheVariants.{Nothing, Refused, Connect, CreateStream, CloseStream, DeleteStream, Publish, Play, Metadata, PingRequest, PingResponse}
+use Rattle.wishes.specs.declared.outcome.Refusal.{Refusal}
+use Rattle.wishes.specs.declared.wish.Wish.{Wish}
+use Rattle.wishes.specs.declared.wish.Wish.TheVariants.{Nothing, Connect, CreateStream, CloseStream, DeleteStream, Publish, Play, Metadata, PingRequest, PingResponse}
 use Rattle.session.specs.declared.session.Session.{Session}
 use Rattle.story.specs.Doings.{Doing, Wants, Shows, Rests, Accepts, Rejects, Finishes, Sends, doing}
 use Rattle.story.specs.History.{makes}
@@ -17,23 +18,23 @@ use Rattle.story.specs.Orders.{Accept, Act, Permuted, Plain, Premises, Reject, T
 -- ---- a step creates nothing, or one stream, which is its own
 data Makes (n : ℕ) (o : Option ℕ) (next : ℕ) : Type 0 where
   nothing : n ≡ 0 → Makes n o next
-  one : n ≡ 1 → o ≡ some next → Makes n o next
+  one : n ≡ 1 → o ≡ Some next → Makes n o next
 
-want_makes : (next : ℕ) (x : StreamId) (v : Want) → Makes (makes v) (owner_of_want next x v) next
-want_makes next x Nothing = nothing refl
-want_makes next x (Refused o) = nothing refl
-want_makes next x (Connect t e) = nothing refl
-want_makes next x (CreateStream t) = one refl refl
-want_makes next x (CloseStream y) = nothing refl
-want_makes next x (DeleteStream y) = nothing refl
-want_makes next x (Publish t a) = nothing refl
-want_makes next x (Play t a) = nothing refl
-want_makes next x Metadata = nothing refl
-want_makes next x (PingRequest v) = nothing refl
-want_makes next x (PingResponse v) = nothing refl
+want_makes : (next : ℕ) (x : StreamId) (v : Result Wish Refusal) → Makes (makes v) (owner_of_want next x v) next
+want_makes next x (Ok Nothing) = nothing refl
+want_makes next x (Err o) = nothing refl
+want_makes next x (Ok (Connect t e app)) = nothing refl
+want_makes next x (Ok (CreateStream t)) = one refl refl
+want_makes next x (Ok (CloseStream y)) = nothing refl
+want_makes next x (Ok (DeleteStream y)) = nothing refl
+want_makes next x (Ok (Publish t a)) = nothing refl
+want_makes next x (Ok (Play t a)) = nothing refl
+want_makes next x (Ok (Metadata read)) = nothing refl
+want_makes next x (Ok (PingRequest v)) = nothing refl
+want_makes next x (Ok (PingResponse v)) = nothing refl
 
 doing_makes : (next : ℕ) (g : Doing) → Makes (made_by g) (owner_of next g) next
-doing_makes next (Wants x w) = want_makes next x w.want
+doing_makes next (Wants x w) = want_makes next x w
 doing_makes next (Shows x e) = nothing refl
 doing_makes next Rests = nothing refl
 doing_makes next (Accepts n) = nothing refl
@@ -65,7 +66,7 @@ module _ (s : Session) where
       pick_elim (λ (r : List (Tagged Act)). creating r ≡ own k older) _ _ (owns (s.next_stream + k) (owner s older p.held))
       (λ b. skip p (mine s (s.next_stream + k) older) e) (λ b. refl)
 
-  module _ (p : Tagged Act) (older : List (Tagged Act)) (o : owner s older p.held ≡ some (s.next_stream + creations_in older)) where
+  module _ (p : Tagged Act) (older : List (Tagged Act)) (o : owner s older p.held ≡ Some (s.next_stream + creations_in older)) where
     own_here : creates p.held ≡ 1 → own (creations_in older) (p ∷ older) ≡ p ∷ own (creations_in older) older
     unfolding mine
     own_here e = rw (o, eq-eqb (s.next_stream + creations_in older) (s.next_stream + creations_in older) refl) (take_one p _ e)
@@ -93,7 +94,7 @@ module _ (s : Session) where
   spread_skip p older e zero = refl
   spread_skip p older e (suc k) = ap₂ (λ (a b : List (Tagged Act)). a ++ b) (own_skip p older k e) (spread_skip p older e k)
 
-  spread_past : (p : Tagged Act) (older : List (Tagged Act)) → owner s older p.held ≡ some (s.next_stream + creations_in older) → (n : ℕ) → n ≤ creations_in older → spread (p ∷ older) n ≡ spread older n
+  spread_past : (p : Tagged Act) (older : List (Tagged Act)) → owner s older p.held ≡ Some (s.next_stream + creations_in older) → (n : ℕ) → n ≤ creations_in older → spread (p ∷ older) n ≡ spread older n
   spread_past p older o zero h = refl
   spread_past p older o (suc k) h = ap₂ (λ (a b : List (Tagged Act)). a ++ b) (own_past p older o k (λ z. omega arith)) (spread_past p older o k (omega arith))
 

@@ -4,9 +4,9 @@ use Prim.Native.Nat.{ℕ, ◌+◌, ◌-◌, ◌≤◌, ◌<◌}
 use native.Mathlib.Omega.{arith}
 use mathlib.Core.Bool.{Bool, true, false}
 use mathlib.Core.List.{List}
-use mathlib.Core.Option.{Option, some, none}
 use lib.Dec.{eqb}
 use borrow.Author.Tests.{eq-eqb, ne_eqb}
+use Rattle.std.specs.Prelude.{Option, Some, None, Result, Ok, Err}
 use Rattle.numbers.specs.Choose.{pick}
 use Rattle.numbers.proofs.ChooseLaws.{pick_elim, pick_eq}
 use Rattle.text.specs.Names.{empty_name}
@@ -18,15 +18,16 @@ use Rattle.tables.specs.declared.requests.RequestKind.TheVariants.{Connect, Publ
 use Rattle.tables.specs.declared.streams.Stream.{Stream}
 use Rattle.tables.specs.declared.streams.StreamState.{StreamState}
 use Rattle.tables.specs.declared.streams.StreamState.TheVariants.{Created, Publishing, Playing, Completed}
-use Rattle.wishes.specs.declared.outcome.Outcome.{Outcome}
-use Rattle.wishes.specs.declared.wish.Want.{Want}
-use Rattle.wishes.specs.declared.wish.Want.TheVariants.{Nothing, Refused, CreateStream, CloseStream, DeleteStream, Metadata, PingRequest, PingResponse}
-use Rattle.wishes.specs.declared.wish.Want.TheVariants.{Connect as ConnectWant, Publish as PublishWant, Play as PlayWant}
+use Rattle.wishes.specs.Outcome.{Outcome}
+use Rattle.wishes.specs.declared.outcome.Refusal.{Refusal}
+use Rattle.wishes.specs.declared.wish.Wish.{Wish}
+use Rattle.wishes.specs.declared.wish.Wish.TheVariants.{Nothing, CreateStream, CloseStream, DeleteStream, Metadata, PingRequest, PingResponse}
+use Rattle.wishes.specs.declared.wish.Wish.TheVariants.{Connect as ConnectWish, Publish as PublishWish, Play as PlayWish}
 use Rattle.session.specs.Changes.{applied}
 use Rattle.session.specs.State.{connected, request_of, stream_of, with_changed, with_request, with_stream, without_request, without_stream}
 use Rattle.session.specs.declared.decision.Decision.{Decision}
 use Rattle.session.specs.declared.decision.Event.{Event}
-use Rattle.session.specs.declared.decision.Event.TheVariants.{NoEvent, ConnectionRequested, PublishStreamRequested, PlayStreamRequested, PublishStreamFinished, PlayStreamFinished, StreamMetadataChanged, AudioDataReceived, VideoDataReceived, PingResponseReceived}
+use Rattle.session.specs.declared.decision.Event.TheVariants.{ConnectionRequested, PublishStreamRequested, PlayStreamRequested, PublishStreamFinished, PlayStreamFinished, StreamMetadataChanged, AudioDataReceived, VideoDataReceived, PingResponseReceived}
 use Rattle.session.specs.declared.session.Session.{Session}
 use Rattle.streams.specs.Streams.{created}
 use Rattle.decisions.specs.Answers.{completed, playing, publishing}
@@ -43,20 +44,20 @@ use Rattle.story.proofs.StepLaws.{heard}
 
 -- ---- what the tables show, in the history's words
 abbrev pub link : Session → Option Name
-link s = pick (connected s) (some s.app) none
+link s = pick (connected s) (Some s.app) None
 
 abbrev pub standing : Option Stream → Option (StreamState × Name)
-standing none = none
-standing (some e) = some (e.state, e.key)
+standing None = None
+standing (Some e) = Some (e.state, e.key)
 
 abbrev pub state_of : Last → Option (StreamState × Name)
-state_of Never = none
-state_of Creation = some (Created, empty_name)
-state_of Closing = some (Created, empty_name)
-state_of Deletion = none
-state_of (PublishAccepted key) = some (Publishing, key)
-state_of (PlayAccepted key) = some (Playing, key)
-state_of Finishing = some (Completed, empty_name)
+state_of Never = None
+state_of Creation = Some (Created, empty_name)
+state_of Closing = Some (Created, empty_name)
+state_of Deletion = None
+state_of (PublishAccepted key) = Some (Publishing, key)
+state_of (PlayAccepted key) = Some (Playing, key)
+state_of Finishing = Some (Completed, empty_name)
 
 pub record Follows (s : Session) (h : List Told) : Type 0 where
   pub links : link s ≡ joined_in h
@@ -67,34 +68,34 @@ pub record Follows (s : Session) (h : List Told) : Type 0 where
   pub counts : filings h ≡ decisions h + s.request_count
 
 -- an event with no request's number files nothing
-pub unfiled : (x : StreamId) (e : Event) (app key : Name) → request_in e ≡ none → filed_by x e app key ≡ none
-unfiled x NoEvent app key k = refl
-unfiled x (ConnectionRequested n) app key k = absurd (not_none _ _ refl k)
-unfiled x (PublishStreamRequested n mode) app key k = absurd (not_none _ _ refl k)
-unfiled x (PlayStreamRequested n start duration reset y) app key k = absurd (not_none _ _ refl k)
-unfiled x PublishStreamFinished app key k = refl
-unfiled x PlayStreamFinished app key k = refl
-unfiled x StreamMetadataChanged app key k = refl
-unfiled x (AudioDataReceived t) app key k = refl
-unfiled x (VideoDataReceived t) app key k = refl
-unfiled x (PingResponseReceived t) app key k = refl
+pub unfiled : (x : StreamId) (e : Option Event) (app key : Name) → request_in e ≡ None → filed_by x e app key ≡ None
+unfiled x None app key k = refl
+unfiled x (Some (ConnectionRequested n)) app key k = absurd (not_none _ _ refl k)
+unfiled x (Some (PublishStreamRequested n mode)) app key k = absurd (not_none _ _ refl k)
+unfiled x (Some (PlayStreamRequested n start duration reset y)) app key k = absurd (not_none _ _ refl k)
+unfiled x (Some PublishStreamFinished) app key k = refl
+unfiled x (Some PlayStreamFinished) app key k = refl
+unfiled x (Some StreamMetadataChanged) app key k = refl
+unfiled x (Some (AudioDataReceived t)) app key k = refl
+unfiled x (Some (VideoDataReceived t)) app key k = refl
+unfiled x (Some (PingResponseReceived t)) app key k = refl
 
 -- and one that files has the request's number
-pub filed_number : (x : StreamId) (e : Event) (app key : Name) (f : Filed) → filed_by x e app key ≡ some f → request_in e ≡ some f.number
-filed_number x NoEvent app key f k = absurd (not_none _ _ k refl)
-filed_number x (ConnectionRequested n) app key f k = let q : record { number = n.0; kind = Connect; stream = 0; name = app } ≡ f = cc in ap some (ap (λ (z : Filed). z.number) q)
-filed_number x (PublishStreamRequested n mode) app key f k = let q : record { number = n.0; kind = Publish; stream = x.0; name = key } ≡ f = cc in ap some (ap (λ (z : Filed). z.number) q)
-filed_number x (PlayStreamRequested n start duration reset y) app key f k = let q : record { number = n.0; kind = Play; stream = y.0; name = key } ≡ f = cc in ap some (ap (λ (z : Filed). z.number) q)
-filed_number x PublishStreamFinished app key f k = absurd (not_none _ _ k refl)
-filed_number x PlayStreamFinished app key f k = absurd (not_none _ _ k refl)
-filed_number x StreamMetadataChanged app key f k = absurd (not_none _ _ k refl)
-filed_number x (AudioDataReceived t) app key f k = absurd (not_none _ _ k refl)
-filed_number x (VideoDataReceived t) app key f k = absurd (not_none _ _ k refl)
-filed_number x (PingResponseReceived t) app key f k = absurd (not_none _ _ k refl)
+pub filed_number : (x : StreamId) (e : Option Event) (app key : Name) (f : Filed) → filed_by x e app key ≡ Some f → request_in e ≡ Some f.number
+filed_number x None app key f k = absurd (not_none _ _ k refl)
+filed_number x (Some (ConnectionRequested n)) app key f k = let q : record { number = n.0; kind = Connect; stream = 0; name = app } ≡ f = cc in ap Some (ap (λ (z : Filed). z.number) q)
+filed_number x (Some (PublishStreamRequested n mode)) app key f k = let q : record { number = n.0; kind = Publish; stream = x.0; name = key } ≡ f = cc in ap Some (ap (λ (z : Filed). z.number) q)
+filed_number x (Some (PlayStreamRequested n start duration reset y)) app key f k = let q : record { number = n.0; kind = Play; stream = y.0; name = key } ≡ f = cc in ap Some (ap (λ (z : Filed). z.number) q)
+filed_number x (Some PublishStreamFinished) app key f k = absurd (not_none _ _ k refl)
+filed_number x (Some PlayStreamFinished) app key f k = absurd (not_none _ _ k refl)
+filed_number x (Some StreamMetadataChanged) app key f k = absurd (not_none _ _ k refl)
+filed_number x (Some (AudioDataReceived t)) app key f k = absurd (not_none _ _ k refl)
+filed_number x (Some (VideoDataReceived t)) app key f k = absurd (not_none _ _ k refl)
+filed_number x (Some (PingResponseReceived t)) app key f k = absurd (not_none _ _ k refl)
 
 -- ---- a step that changed nothing is told as nothing
 module _ (s : Session) (d : Decision) where
-  pub still_files : (g : Doing) → request_in d.event ≡ none → (n t : ℕ) (out : List ℕ) → filing g (heard d n t out) ≡ none
+  pub still_files : (g : Doing) → request_in d.event ≡ None → (n t : ℕ) (out : List ℕ) → filing g (heard d n t out) ≡ None
   still_files (Wants x w) k n t out = unfiled x d.event d.app d.key k
   still_files (Shows x e) k n t out = refl
   still_files Rests k n t out = refl
@@ -103,7 +104,7 @@ module _ (s : Session) (d : Decision) where
   still_files (Finishes x) k n t out = refl
   still_files (Sends x) k n t out = refl
 
-  pub still_decides : (g : Doing) → Still s g d → decides g d.outcome ≡ none
+  pub still_decides : (g : Doing) → Still s g d → decides g d.outcome ≡ None
   still_decides (Wants x w) k = refl
   still_decides (Shows x e) k = refl
   still_decides Rests k = refl
@@ -125,21 +126,21 @@ module _ (s : Session) (d : Decision) where
   none_made true = refl
   none_made false = refl
 
-  still_want : (v : Want) (o : Outcome) → StillWant s v o → pick (done o) (makes v) 0 ≡ 0
-  still_want Nothing o k = none_made (done o)
-  still_want (Refused p) o k = none_made (done o)
-  still_want (ConnectWant t e) o k = none_made (done o)
-  still_want (CreateStream t) o k = rw k.0
-  still_want (CloseStream y) o k = none_made (done o)
-  still_want (DeleteStream y) o k = none_made (done o)
-  still_want (PublishWant t a) o k = none_made (done o)
-  still_want (PlayWant t a) o k = none_made (done o)
-  still_want Metadata o k = none_made (done o)
-  still_want (PingRequest v) o k = none_made (done o)
-  still_want (PingResponse v) o k = none_made (done o)
+  still_want : (v : Result Wish Refusal) (o : Outcome) → StillWant s v o → pick (done o) (makes v) 0 ≡ 0
+  still_want (Ok Nothing) o k = none_made (done o)
+  still_want (Err p) o k = none_made (done o)
+  still_want (Ok (ConnectWish t e app)) o k = none_made (done o)
+  still_want (Ok (CreateStream t)) o k = rw k.0
+  still_want (Ok (CloseStream y)) o k = none_made (done o)
+  still_want (Ok (DeleteStream y)) o k = none_made (done o)
+  still_want (Ok (PublishWish t a)) o k = none_made (done o)
+  still_want (Ok (PlayWish t a)) o k = none_made (done o)
+  still_want (Ok (Metadata read)) o k = none_made (done o)
+  still_want (Ok (PingRequest v)) o k = none_made (done o)
+  still_want (Ok (PingResponse v)) o k = none_made (done o)
 
   still_makes : (g : Doing) → Still s g d → creation g d.outcome ≡ 0
-  still_makes (Wants x w) k = still_want w.want d.outcome k
+  still_makes (Wants x w) k = still_want w d.outcome k
   still_makes (Shows x e) k = refl
   still_makes Rests k = refl
   still_makes (Accepts m) k = refl
@@ -148,12 +149,12 @@ module _ (s : Session) (d : Decision) where
   still_makes (Sends x) k = refl
 
 -- ---- requests
-found_filed : (b : Bool) (o : Option Filed) (f : Filed) → pick b none o ≡ some f → o ≡ some f
+found_filed : (b : Bool) (o : Option Filed) (f : Filed) → pick b None o ≡ Some f → o ≡ Some f
 found_filed true o f e = absurd (not_none _ _ e refl)
 found_filed false o f e = e
 
 -- what waits was filed
-pub waits_filed : (s : Session) (h : List Told) → Follows s h → (n : ℕ) (r : Request) → request_of s n ≡ some r → filed n h ≡ some (as_filed r)
+pub waits_filed : (s : Session) (h : List Told) → Follows s h → (n : ℕ) (r : Request) → request_of s n ≡ Some r → filed n h ≡ Some (as_filed r)
 waits_filed s h v n r f = found_filed (decided n h) (filed n h) (as_filed r) (sym (v.waits n) ∙ ap asked f)
 
 undecided : (s : Session) (h : List Told) → Follows s h → (n : ℕ) → s.next_request ≤ n → decided n h ≡ false
@@ -164,15 +165,15 @@ undecided s h v n k = at (decided n h) refl
     at false e = refl
 
 module _ (s : Session) (g : Good s) (h : List Told) (v : Follows s h) where
-  filed_waits : (r : Request) → Next s r → (n : ℕ) → asked (request_of (with_request s r) n) ≡ pick (decided n h) none (pick (eqb r.id.0 n) (some (as_filed r)) (filed n h))
+  filed_waits : (r : Request) → Next s r → (n : ℕ) → asked (request_of (with_request s r) n) ≡ pick (decided n h) None (pick (eqb r.id.0 n) (Some (as_filed r)) (filed n h))
   filed_waits r k n =
       same_or r.id.0 n _
       (λ q. let z = k.number in
       ap asked (ap (request_of (with_request s r)) (sym q) ∙ filed_same s g r k.place k.number) ∙ rw (undecided s h v n (omega arith), eq-eqb r.id.0 n q))
       (λ q. ap asked (filed_other s g r k.place n q) ∙ v.waits n ∙ rw (ne_eqb r.id.0 n q))
 
-  module _ (m : ℕ) (r : Request) (f : request_of s m ≡ some r) where
-    dropped_waits : (n : ℕ) → asked (request_of (without_request s r.id.0) n) ≡ pick (pick (eqb m n) true (decided n h)) none (filed n h)
+  module _ (m : ℕ) (r : Request) (f : request_of s m ≡ Some r) where
+    dropped_waits : (n : ℕ) → asked (request_of (without_request s r.id.0) n) ≡ pick (pick (eqb m n) true (decided n h)) None (filed n h)
     dropped_waits n =
         rw (request_number_lem s g m r f)
         (same_or m n _
@@ -186,7 +187,7 @@ module _ (s : Session) (g : Good s) (h : List Told) (v : Follows s h) where
     dropped_counts = let z = v.counts in rw (request_number_lem s g m r f) (omega (arith, dropped_count s g m r f))
 
 -- ---- streams
-stands_none : (l : Last) → state_of l ≡ none → stands l ≡ false
+stands_none : (l : Last) → state_of l ≡ None → stands l ≡ false
 stands_none Never e = refl
 stands_none Creation e = absurd (not_none _ _ refl e)
 stands_none Closing e = absurd (not_none _ _ refl e)
@@ -195,7 +196,7 @@ stands_none (PublishAccepted key) e = absurd (not_none _ _ refl e)
 stands_none (PlayAccepted key) e = absurd (not_none _ _ refl e)
 stands_none Finishing e = absurd (not_none _ _ refl e)
 
-stands_some : (l : Last) (v : StreamState × Name) → state_of l ≡ some v → stands l ≡ true
+stands_some : (l : Last) (v : StreamState × Name) → state_of l ≡ Some v → stands l ≡ true
 stands_some Never v e = absurd (not_none _ _ e refl)
 stands_some Creation v e = refl
 stands_some Closing v e = refl
@@ -204,30 +205,30 @@ stands_some (PublishAccepted key) v e = refl
 stands_some (PlayAccepted key) v e = refl
 stands_some Finishing v e = refl
 
-pub linked_on : (b : Bool) (app a : Name) → pick b (some app) none ≡ some a → b ≡ true
+pub linked_on : (b : Bool) (app a : Name) → pick b (Some app) None ≡ Some a → b ≡ true
 linked_on true app a e = refl
 linked_on false app a e = absurd (not_none _ _ e refl)
 
-end_none : (new : Last) (j : Option Name) (old : Last) → ((a : Name) → j ≡ some a → stands old ≡ false) → ending new j old ≡ old
-end_none new none old k = refl
-end_none new (some a) old k = rw (k a refl)
+end_none : (new : Last) (j : Option Name) (old : Last) → ((a : Name) → j ≡ Some a → stands old ≡ false) → ending new j old ≡ old
+end_none new None old k = refl
+end_none new (Some a) old k = rw (k a refl)
 
-pub kind_state : (k : RequestKind) (r : Request) (a : Stream) (old : Last) → becomes k r ≡ some a → (a.id.0 ≡ r.stream.0) × (state_of (acceptance k r.name old) ≡ some (a.state, a.key))
+pub kind_state : (k : RequestKind) (r : Request) (a : Stream) (old : Last) → becomes k r ≡ Some a → (a.id.0 ≡ r.stream.0) × (state_of (acceptance k r.name old) ≡ Some (a.state, a.key))
 kind_state Connect r a old e = absurd (not_none _ _ e refl)
 kind_state Publish r a old e = let q : publishing r ≡ a = cc in rw (← q) (refl, refl)
 kind_state Play r a old e = let q : playing r ≡ a = cc in rw (← q) (refl, refl)
 
-kind_joins : (k : RequestKind) (r : Request) (a : Stream) (old : Option Name) → becomes k r ≡ some a → joining_kind k r.name old ≡ old
+kind_joins : (k : RequestKind) (r : Request) (a : Stream) (old : Option Name) → becomes k r ≡ Some a → joining_kind k r.name old ≡ old
 kind_joins Connect r a old e = absurd (not_none _ _ e refl)
 kind_joins Publish r a old e = refl
 kind_joins Play r a old e = refl
 
 module _ (s : Session) (g : Good s) (h : List Told) (v : Follows s h) (x : ℕ) where
-  linked : connected s ≡ true → joined_in h ≡ some s.app
+  linked : connected s ≡ true → joined_in h ≡ Some s.app
   linked c = sym v.links ∙ rw c
 
   -- a close or a delete that did nothing
-  still_ends : (new : Last) (y : ℕ) (o : Outcome) → (done o ≡ true → connected s ≡ true → stream_of s y ≡ none)
+  still_ends : (new : Last) (y : ℕ) (o : Outcome) → (done o ≡ true → connected s ≡ true → stream_of s y ≡ None)
       → standing (stream_of s x) ≡ state_of (pick (done o) (pick (eqb y x) (ending new (joined_in h) (last_effective x h)) (last_effective x h)) (last_effective x h))
   still_ends new y o k =
       pick_elim (λ (l : Last). standing (stream_of s x) ≡ state_of l) _ _ (done o)
@@ -241,21 +242,21 @@ module _ (s : Session) (g : Good s) (h : List Told) (v : Follows s h) (x : ℕ) 
   same_pick true = v.agrees x
   same_pick false = v.agrees x
 
-  still_wanted : (w : Want) (o : Outcome) → StillWant s w o → standing (stream_of s x) ≡ state_of (pick (done o) (effect_of_want x w h (last_effective x h)) (last_effective x h))
-  still_wanted Nothing o k = same_pick (done o)
-  still_wanted (Refused p) o k = same_pick (done o)
-  still_wanted (ConnectWant t e) o k = same_pick (done o)
-  still_wanted (CreateStream t) o k = rw k.0 (v.agrees x)
-  still_wanted (CloseStream y) o k = still_ends Closing y.0 o k
-  still_wanted (DeleteStream y) o k = still_ends Deletion y.0 o k
-  still_wanted (PublishWant t a) o k = same_pick (done o)
-  still_wanted (PlayWant t a) o k = same_pick (done o)
-  still_wanted Metadata o k = same_pick (done o)
-  still_wanted (PingRequest z) o k = same_pick (done o)
-  still_wanted (PingResponse z) o k = same_pick (done o)
+  still_wanted : (w : Result Wish Refusal) (o : Outcome) → StillWant s w o → standing (stream_of s x) ≡ state_of (pick (done o) (effect_of_want x w h (last_effective x h)) (last_effective x h))
+  still_wanted (Ok Nothing) o k = same_pick (done o)
+  still_wanted (Err p) o k = same_pick (done o)
+  still_wanted (Ok (ConnectWish t e app)) o k = same_pick (done o)
+  still_wanted (Ok (CreateStream t)) o k = rw k.0 (v.agrees x)
+  still_wanted (Ok (CloseStream y)) o k = still_ends Closing y.0 o k
+  still_wanted (Ok (DeleteStream y)) o k = still_ends Deletion y.0 o k
+  still_wanted (Ok (PublishWish t a)) o k = same_pick (done o)
+  still_wanted (Ok (PlayWish t a)) o k = same_pick (done o)
+  still_wanted (Ok (Metadata read)) o k = same_pick (done o)
+  still_wanted (Ok (PingRequest z)) o k = same_pick (done o)
+  still_wanted (Ok (PingResponse z)) o k = same_pick (done o)
 
   still_agrees : (d : Decision) (k : Doing) → Still s k d → standing (stream_of s x) ≡ state_of (effect x k d.outcome h (last_effective x h))
-  still_agrees d (Wants y w) i = still_wanted w.want d.outcome i
+  still_agrees d (Wants y w) i = still_wanted w d.outcome i
   still_agrees d (Shows y e) i = v.agrees x
   still_agrees d Rests i = v.agrees x
   still_agrees d (Accepts n) i = rw i.0 (v.agrees x)
@@ -264,7 +265,7 @@ module _ (s : Session) (g : Good s) (h : List Told) (v : Follows s h) (x : ℕ) 
   still_agrees d (Sends y) i = v.agrees x
 
   -- a stream of number y is now e
-  set_agrees : (e old : Stream) (y : ℕ) (new : Last) → e.id.0 ≡ y → stream_of s y ≡ some old → (y ≡ x → state_of new ≡ some (e.state, e.key))
+  set_agrees : (e old : Stream) (y : ℕ) (new : Last) → e.id.0 ≡ y → stream_of s y ≡ Some old → (y ≡ x → state_of new ≡ Some (e.state, e.key))
       → standing (stream_of (with_changed s e) x) ≡ state_of (pick (eqb y x) new (last_effective x h))
   set_agrees e old y new q f k =
       pick_eq (λ (l : Last). standing (stream_of (with_changed s e) x) ≡ state_of l) _ _ y x
@@ -272,7 +273,7 @@ module _ (s : Session) (g : Good s) (h : List Told) (v : Follows s h) (x : ℕ) 
       (λ z. ap standing (set_other s g e x (λ u. z (sym q ∙ u))) ∙ v.agrees x)
 
   -- a stream that stood was closed or deleted while connected
-  ends : (new : Last) (y : ℕ) (e : Stream) → connected s ≡ true → stream_of s y ≡ some e → y ≡ x → ending new (joined_in h) (last_effective x h) ≡ new
+  ends : (new : Last) (y : ℕ) (e : Stream) → connected s ≡ true → stream_of s y ≡ Some e → y ≡ x → ending new (joined_in h) (last_effective x h) ≡ new
   ends new y e c f q = rw (linked c, stands_some (last_effective x h) (e.state, e.key) (sym (v.agrees x) ∙ ap standing (ap (stream_of s) (sym q) ∙ f)))
 
   pub did_agrees : {k : Doing} {d : Decision} → Did s k d → standing (stream_of (applied s d.change) x) ≡ state_of (effect x k d.outcome h (last_effective x h))
@@ -318,7 +319,7 @@ module _ (s : Session) (g : Good s) (h : List Told) (v : Follows s h) where
   did_links (rejects f) = v.links
 
   pub did_waits : {k : Doing} {d : Decision} → Did s k d → (c t : ℕ) (out : List ℕ) (n : ℕ)
-      → asked (request_of (applied s d.change) n) ≡ pick (is_it n (decides k d.outcome) (decided n h)) none (numbered n (filing k (heard d c t out)) (filed n h))
+      → asked (request_of (applied s d.change) n) ≡ pick (is_it n (decides k d.outcome) (decided n h)) None (numbered n (filing k (heard d c t out)) (filed n h))
   unfolding applied with_stream with_changed without_stream without_request with_request
   did_waits (still k d c z f i) m t out n = rw (c, still_decides s d k i, still_files s d k f m t out) (v.waits n)
   did_waits (made q m k) c t out n = v.waits n

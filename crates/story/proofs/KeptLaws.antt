@@ -2,8 +2,8 @@
 use mathlib.Core.Path.{◌≡◌, ap, ◌∙◌}
 use Prim.Native.Nat.{ℕ, ◌-◌}
 use mathlib.Core.Bool.{true}
-use mathlib.Core.Option.{some}
 use lib.ListN.{length}
+use Rattle.std.specs.Prelude.{Some}
 use Rattle.tables.specs.declared.requests.Request.{Request}
 use Rattle.tables.specs.declared.streams.Stream.{Stream}
 use Rattle.session.specs.Changes.{applied}
@@ -18,10 +18,10 @@ use Rattle.story.proofs.DecisionLaws.{Did, closed, completes, connects, deleted,
 use Rattle.story.proofs.StepLaws.{Took, step_took, took}
 
 -- what is found stands under its own number
-pub own_stream_lem : (s : Session) → Good s → (x : ℕ) (e : Stream) → stream_of s x ≡ some e → stream_of s e.id.0 ≡ some e
+pub own_stream_lem : (s : Session) → Good s → (x : ℕ) (e : Stream) → stream_of s x ≡ Some e → stream_of s e.id.0 ≡ Some e
 own_stream_lem s g x e f = ap (stream_of s) (stream_number_lem s g x e f) ∙ f
 
-pub own_request : (s : Session) → Good s → (n : ℕ) (r : Request) → request_of s n ≡ some r → request_of s r.id.0 ≡ some r
+pub own_request : (s : Session) → Good s → (n : ℕ) (r : Request) → request_of s n ≡ Some r → request_of s r.id.0 ≡ Some r
 own_request s g n r f = ap (request_of s) (request_number_lem s g n r f) ∙ f
 
 abbrev Places : Session → Type 0

@@ -5,7 +5,7 @@ use native.Mathlib.Numerals.{add-one}
 use native.Mathlib.Omega.{arith}
 use mathlib.Core.Bool.{Bool, true, false, not, true≢false}
 use mathlib.Core.List.{List, [], ◌∷◌, ◌++◌}
-use mathlib.Core.Option.{Option, some, none}
+use Rattle.std.specs.Prelude.{Option, Some, None}
 use lib.Dec.{leb, ltb}
 use lib.ListN.{length, take, drop, set, length-append, length-drop}
 use lib.Seq.{length-take-le, take-append_seam, take-suc-set}
@@ -17,10 +17,10 @@ use Rattle.tables.proofs.SoundLaws.{both}
 use Rattle.tables.proofs.KeptTheorems.{length_change, length_remove}
 use Rattle.tables.proofs.TablesLaws.{look_no, look_past, look_yes}
 
-pub not_none : {A : Type 0} (o : Option A) (a : A) → o ≡ some a → o ≡ none → ⊥
+pub not_none : {A : Type 0} (o : Option A) (a : A) → o ≡ Some a → o ≡ None → ⊥
 not_none o a p q = let z : ◌≡◌ {A = ℕ} 0 1 = cc in omega arith
 
-pub same_found : {A : Type 0} (o : Option A) (a b : A) → o ≡ some a → o ≡ some b → a ≡ b
+pub same_found : {A : Type 0} (o : Option A) (a b : A) → o ≡ Some a → o ≡ Some b → a ≡ b
 same_found o a b p q = cc
 
 -- by whether two numbers are the same
@@ -29,22 +29,22 @@ same_or a b P f g = pick_eq (λ (u : Unit {0}). P) tt tt a b f g
 
 module _ {A : Type 0} (number : A → ℕ) where
   -- ---- an append
-  pub look_append_same : (e : A) (l : List A) → look number (number e) l ≡ none → look number (number e) (l ++ e ∷ []) ≡ some e
+  pub look_append_same : (e : A) (l : List A) → look number (number e) l ≡ None → look number (number e) (l ++ e ∷ []) ≡ Some e
   look_append_same e l h = look_past number (number e) l (e ∷ []) h ∙ look_yes number (number e) e [] refl
 
   pub look_append_other : (id : ℕ) (e : A) (l : List A) → (number e ≡ id → ⊥) → look number id (l ++ e ∷ []) ≡ look number id l
   unfolding look
   look_append_other id e [] n = look_no number id e [] n
   look_append_other id e (x ∷ xs) n =
-      pick_eq (λ (o : Option A). o ≡ look number id (x ∷ xs)) (some x) (look number id (xs ++ e ∷ [])) (number x) id
+      pick_eq (λ (o : Option A). o ≡ look number id (x ∷ xs)) (Some x) (look number id (xs ++ e ∷ [])) (number x) id
       (λ q. sym (look_yes number id x xs q)) (λ q. look_append_other id e xs n ∙ sym (look_no number id x xs q))
 
   -- ---- a change
-  pub look_change_same : (y old : A) (l : List A) → look number (number y) l ≡ some old → look number (number y) (change number y l) ≡ some y
+  pub look_change_same : (y old : A) (l : List A) → look number (number y) l ≡ Some old → look number (number y) (change number y l) ≡ Some y
   unfolding look change
   look_change_same y old [] h = absurd (not_none _ _ h refl)
   look_change_same y old (x ∷ xs) h =
-      pick_eq (λ (r : List A). look number (number y) r ≡ some y) (y ∷ xs) (x ∷ change number y xs) (number x) (number y)
+      pick_eq (λ (r : List A). look number (number y) r ≡ Some y) (y ∷ xs) (x ∷ change number y xs) (number x) (number y)
       (λ q. look_yes number (number y) y xs refl)
       (λ q. look_no number (number y) x (change number y xs) q ∙ look_change_same y old xs (sym (look_no number (number y) x xs q) ∙ h))
 
@@ -54,7 +54,7 @@ module _ {A : Type 0} (number : A → ℕ) where
   look_change_other id y (x ∷ xs) n =
       pick_eq (λ (r : List A). look number id r ≡ look number id (x ∷ xs)) (y ∷ xs) (x ∷ change number y xs) (number x) (number y)
       (λ q. look_no number id y xs n ∙ sym (look_no number id x xs (λ z. n (sym q ∙ z))))
-      (λ q. pick_eq (λ (o : Option A). o ≡ look number id (x ∷ xs)) (some x) (look number id (change number y xs)) (number x) id
+      (λ q. pick_eq (λ (o : Option A). o ≡ look number id (x ∷ xs)) (Some x) (look number id (change number y xs)) (number x) id
       (λ z. sym (look_yes number id x xs z)) (λ z. look_change_other id y xs n ∙ sym (look_no number id x xs z)))
 
   -- ---- a removal
@@ -64,20 +64,20 @@ module _ {A : Type 0} (number : A → ℕ) where
   look_remove_other id k (x ∷ xs) n =
       pick_eq (λ (r : List A). look number id r ≡ look number id (x ∷ xs)) xs (x ∷ remove number k xs) (number x) k
       (λ q. sym (look_no number id x xs (λ z. n (sym q ∙ z))))
-      (λ q. pick_eq (λ (o : Option A). o ≡ look number id (x ∷ xs)) (some x) (look number id (remove number k xs)) (number x) id
+      (λ q. pick_eq (λ (o : Option A). o ≡ look number id (x ∷ xs)) (Some x) (look number id (remove number k xs)) (number x) id
       (λ z. sym (look_yes number id x xs z)) (λ z. look_remove_other id k xs n ∙ sym (look_no number id x xs z)))
 
-  hasn't : (id : ℕ) (l : List A) → has number id l ≡ false → look number id l ≡ none
+  hasn't : (id : ℕ) (l : List A) → has number id l ≡ false → look number id l ≡ None
   unfolding has look
   hasn't id [] h = refl
   hasn't id (x ∷ xs) h =
-      pick_eq (λ (b : Bool). b ≡ false → look number id (x ∷ xs) ≡ none) true (has number id xs) (number x) id
+      pick_eq (λ (b : Bool). b ≡ false → look number id (x ∷ xs) ≡ None) true (has number id xs) (number x) id
       (λ q e. absurd (true≢false e)) (λ q e. look_no number id x xs q ∙ hasn't id xs e) h
 
   module _ (name : A → Name) (next : ℕ) where
     record Head (x : A) (xs : List A) : Type 0 where
       under : number x < next
-      once : look number (number x) xs ≡ none
+      once : look number (number x) xs ≡ None
       rest : sound number name next xs ≡ true
 
     head : (x : A) (xs : List A) → sound number name next (x ∷ xs) ≡ true → Head x xs
@@ -88,23 +88,23 @@ module _ {A : Type 0} (number : A → ℕ) where
         let c = both (not (has number (number x) xs)) _ b.1 in
         record { under = ltb-true (number x) next b.0; once = hasn't (number x) xs (not-true (has number (number x) xs) c.0); rest = c.1 }
 
-    pub look_remove_same : (id : ℕ) (l : List A) → sound number name next l ≡ true → look number id (remove number id l) ≡ none
+    pub look_remove_same : (id : ℕ) (l : List A) → sound number name next l ≡ true → look number id (remove number id l) ≡ None
     unfolding look remove
     look_remove_same id [] h = refl
     look_remove_same id (x ∷ xs) h =
         let s = head x xs h in
-        pick_eq (λ (r : List A). look number id r ≡ none) xs (x ∷ remove number id xs) (number x) id
+        pick_eq (λ (r : List A). look number id r ≡ None) xs (x ∷ remove number id xs) (number x) id
         (λ q. ap (λ (k : ℕ). look number k xs) (sym q) ∙ s.once) (λ q. look_no number id x (remove number id xs) q ∙ look_remove_same id xs s.rest)
 
-    pub look_below : (id : ℕ) (l : List A) (e : A) → sound number name next l ≡ true → look number id l ≡ some e → id < next
+    pub look_below : (id : ℕ) (l : List A) (e : A) → sound number name next l ≡ true → look number id l ≡ Some e → id < next
     unfolding look
     look_below id [] e h f = absurd (not_none _ _ f refl)
     look_below id (x ∷ xs) e h f =
         let s = head x xs h in
-        pick_eq (λ (o : Option A). o ≡ some e → id < next) (some x) (look number id xs) (number x) id
+        pick_eq (λ (o : Option A). o ≡ Some e → id < next) (Some x) (look number id xs) (number x) id
         (λ q u. omega (arith, s.under)) (λ q u. look_below id xs e s.rest u) f
 
-    pub look_absent : (id : ℕ) (l : List A) → sound number name next l ≡ true → next ≤ id → look number id l ≡ none
+    pub look_absent : (id : ℕ) (l : List A) → sound number name next l ≡ true → next ≤ id → look number id l ≡ None
     unfolding look
     look_absent id [] h g = refl
     look_absent id (x ∷ xs) h g = let s = head x xs h in look_no number id x xs (λ q. omega (arith, s.under)) ∙ look_absent id xs s.rest g
@@ -132,7 +132,7 @@ module _ {A : Type 0} (number : A → ℕ) where
       unfolding changed
       length_changed y = omega (arith, length-append (change number y (take n l)) (drop n l), length_change number name y (take n l), length-take-le n l in_places, length-drop n l, in_places)
 
-      module _ (blank : A) (id : ℕ) (e : A) (f : look number id (take n l) ≡ some e) where
+      module _ (blank : A) (id : ℕ) (e : A) (f : look number id (take n l) ≡ Some e) where
         removed_is : removed number blank id n l ≡ remove number id (take n l) ++ blank ∷ drop n l
         unfolding removed
         removed_is = ap (closed number blank (remove number id (take n l)) (drop n l) l) f

@@ -4,46 +4,45 @@ use Prim.Native.Nat.{ℕ, ◌+◌, ◌≤◌, ◌<◌}
 use native.Mathlib.Omega.{arith}
 use mathlib.Core.Bool.{Bool, true, false, true≢false}
 use mathlib.Core.List.{List, []}
-use mathlib.Core.Option.{Option, some, none}
 use lib.Dec.{eqb}
 use borrow.Author.Tests.{eq-eqb, ne_eqb}
+use Rattle.std.specs.Option.{option_and_then}
+use Rattle.std.specs.Prelude.{Option, Some, None, Result, Ok, Err, is_some}
 use Rattle.numbers.specs.Choose.{pick}
 use Rattle.numbers.proofs.ChooseLaws.{pick_eq, pick_le}
 use Rattle.text.specs.declared.ids.StreamId.{StreamId}
 use Rattle.text.specs.declared.names.Name.{Name}
 use Rattle.answers.specs.Sending.{sent}
-use Rattle.metadata.specs.declared.metadata.StreamMetadata.{StreamMetadata}
-use Rattle.tables.specs.Entries.{found_request, found_stream, no_request}
+use Rattle.tables.specs.Entries.{no_request}
 use Rattle.tables.specs.declared.requests.Request.{Request}
 use Rattle.tables.specs.declared.requests.RequestKind.{RequestKind}
 use Rattle.tables.specs.declared.requests.RequestKind.TheVariants.{Connect, Publish, Play}
 use Rattle.tables.specs.declared.streams.Stream.{Stream}
-use Rattle.wishes.specs.Outcome.{number_of}
-use Rattle.wishes.specs.declared.outcome.Outcome.{Outcome}
+use Rattle.wishes.specs.Outcome.{Outcome, number_of}
+use Rattle.wishes.specs.declared.outcome.Refusal.{Refusal}
 use Rattle.wishes.specs.declared.wish.PlayArguments.{PlayArguments}
-use Rattle.wishes.specs.declared.wish.PlayArguments.TheVariants.{TooFew as PlayTooFew, KeyNoString as PlayKeyNoString, Good as PlayGood}
+use Rattle.wishes.specs.declared.wish.PlayFault.{PlayFault}
 use Rattle.wishes.specs.declared.wish.PublishArguments.{PublishArguments}
-use Rattle.wishes.specs.declared.wish.PublishArguments.TheVariants.{TooFew, KeyNoString, ModeNoString, ModeUnknown, Good as PublishGood}
-use Rattle.wishes.specs.declared.wish.Want.{Want}
-use Rattle.wishes.specs.declared.wish.Want.TheVariants.{Nothing, Refused, CreateStream, CloseStream, DeleteStream, Metadata, PingRequest, PingResponse}
-use Rattle.wishes.specs.declared.wish.Want.TheVariants.{Connect as ConnectWant, Publish as PublishWant, Play as PlayWant}
+use Rattle.wishes.specs.declared.wish.PublishFault.{PublishFault}
+use Rattle.wishes.specs.declared.wish.Wish.{Wish}
+use Rattle.wishes.specs.declared.wish.Wish.TheVariants.{Nothing, CreateStream, CloseStream, DeleteStream, Metadata, PingRequest, PingResponse}
+use Rattle.wishes.specs.declared.wish.Wish.TheVariants.{Connect as ConnectWish, Publish as PublishWish, Play as PlayWish}
 use Rattle.session.specs.Changes.{applied}
-use Rattle.session.specs.Decisions.{nothing}
+use Rattle.session.specs.Decisions.{nothing, refusing}
 use Rattle.session.specs.State.{connected, request_of, stream_of, with_changed, with_request, with_stream, without_request, without_stream}
 use Rattle.session.specs.declared.changes.Effect.{Effect}
 use Rattle.session.specs.declared.changes.Effect.TheVariants.{StreamMade, StreamSet, StreamRemoved, RequestFiled, ConnectFiled, ConnectAccepted, StreamAccepted, RequestRemoved}
 use Rattle.session.specs.declared.changes.Effect.TheVariants.{Nothing as NoEffect}
 use Rattle.session.specs.declared.decision.Decision.{Decision}
 use Rattle.session.specs.declared.decision.Event.{Event}
-use Rattle.session.specs.declared.decision.Event.TheVariants.{NoEvent, ConnectionRequested, PublishStreamRequested, PlayStreamRequested, PublishStreamFinished, PlayStreamFinished, StreamMetadataChanged, AudioDataReceived, VideoDataReceived, PingResponseReceived}
+use Rattle.session.specs.declared.decision.Event.TheVariants.{ConnectionRequested, PublishStreamRequested, PlayStreamRequested, PublishStreamFinished, PlayStreamFinished, StreamMetadataChanged, AudioDataReceived, VideoDataReceived, PingResponseReceived}
 use Rattle.session.specs.declared.desk.Desk.{Desk}
 use Rattle.session.specs.declared.session.Session.{Session}
-use Rattle.streams.specs.Streams.{create_stream, created, no_frame, on_stream, shown}
+use Rattle.streams.specs.Streams.{create_stream, created, on_stream, shown_found}
 use Rattle.streams.specs.declared.streams.Frame.{Frame}
-use Rattle.steps.specs.Commands.{asking, filing, on_room, play, publish, request_room}
-use Rattle.steps.specs.Deciding.{decide, decide_want}
-use Rattle.steps.specs.declared.commands.Room.{Room}
-use Rattle.decisions.specs.Answers.{accept_request, completed, finish_playing, granted, on_waiting, reject_request, rejection, settled}
+use Rattle.steps.specs.Commands.{asked, on_asked, play, publish, request_room}
+use Rattle.steps.specs.Deciding.{decide}
+use Rattle.decisions.specs.Answers.{accept_request, completed, finish_playing, granted, reject_request, rejection}
 use Rattle.replies.specs.Replies.{short}
 use Rattle.story.specs.Steps.{Call, Response, accept, finish, media, message, reject, send_audio, send_metadata, send_ping, send_video}
 use Rattle.story.specs.Doings.{Doing, Wants, Shows, Rests, Accepts, Rejects, Finishes, Sends, doing}
@@ -59,13 +58,18 @@ use Rattle.story.proofs.StepLaws.{Constants, answer_by, constants_of, fitted, he
 
 -- ---- the machine's decision: the app that was joined, the stream's number, and what stands there
 abbrev pub desk_for : Name → ℕ → Option Stream → Desk
-desk_for app x o = record { connected = true; app = app; next_stream = x; next_request = 0; stream_count = 0; request_count = 0; seen = found_stream o }
+desk_for app x o = record { connected = true; app = app; next_stream = x; next_request = 0; stream_count = 0; request_count = 0; seen = o }
 
-abbrev pub frame_seen : Desk → Event → Frame
-frame_seen d e = pick d.connected (pick d.seen.found (shown d.seen.stream.state e d.app d.seen.stream.key) no_frame) no_frame
+abbrev pub frame_seen : Desk → Event → Option Frame
+frame_seen d e = pick d.connected (option_and_then (shown_found e d.app) d.seen) None
+
+-- of what was read of a message
+abbrev pub decide_read : Desk → StreamId → Result Wish Refusal → Decision
+decide_read d x (Ok w) = decide d x w
+decide_read d x (Err r) = refusing r
 
 abbrev pub desk_decision : Desk → Doing → Decision
-desk_decision d (Wants y w) = decide d y w
+desk_decision d (Wants y w) = decide_read d y w
 desk_decision d (Shows y e) = shown_as (frame_seen d e)
 desk_decision d Rests = nothing
 desk_decision d (Accepts n) = nothing
@@ -76,8 +80,8 @@ desk_decision d (Sends y) = nothing
 -- own: the steps of this stream before this one
 abbrev pub own_decision : Session → ℕ → Option Stream → List (Tagged Act) → Act → Decision
 own_decision s x o own (Plain c) = desk_decision (desk_for s.app x o) (doing c)
-own_decision s x o own (Accept r clock out) = accept_request (found_request (ask_at s own r)) (found_stream o).found
-own_decision s x o own (Reject r code description clock out) = reject_request (found_request (ask_at s own r)) (short code description)
+own_decision s x o own (Accept r clock out) = accept_request (ask_at s own r) (is_some o)
+own_decision s x o own (Reject r code description clock out) = reject_request (ask_at s own r) (short code description)
 
 -- the call, with no number for a request
 abbrev pub bare_call : Act → Call
@@ -91,13 +95,13 @@ own_answer s x o own act = plain (answer_by (constants_of s) (own_decision s x o
 -- what a change makes of the stream that it is about
 abbrev pub stream_after : Effect → Stream → Option Stream → Option Stream
 stream_after NoEffect e o = o
-stream_after StreamMade e o = some e
-stream_after StreamSet e o = some e
-stream_after StreamRemoved e o = none
+stream_after StreamMade e o = Some e
+stream_after StreamSet e o = Some e
+stream_after StreamRemoved e o = None
 stream_after RequestFiled e o = o
 stream_after (ConnectFiled encoding) e o = o
 stream_after ConnectAccepted e o = o
-stream_after StreamAccepted e o = some e
+stream_after StreamAccepted e o = Some e
 stream_after RequestRemoved e o = o
 
 abbrev pub own_stream : Decision → Option Stream → Option Stream
@@ -118,26 +122,30 @@ bare d =
     }
 
 -- ---- the desk in the session and the machine's desk
-abbrev pub Meets : Desk → ℕ → Option Stream → Want → Type 0
-Meets d x o Nothing = Unit {0}
-Meets d x o (Refused p) = Unit {0}
-Meets d x o (ConnectWant t e) = Unit {0}
-Meets d x o (CreateStream t) = d.next_stream ≡ x
-Meets d x o (CloseStream y) = d.seen ≡ found_stream o
-Meets d x o (DeleteStream y) = d.seen ≡ found_stream o
-Meets d x o (PublishWant t a) = Unit {0}
-Meets d x o (PlayWant t a) = Unit {0}
-Meets d x o Metadata = d.seen ≡ found_stream o
-Meets d x o (PingRequest v) = Unit {0}
-Meets d x o (PingResponse v) = Unit {0}
+abbrev pub Meets : Desk → ℕ → Option Stream → Result Wish Refusal → Type 0
+Meets d x o (Ok Nothing) = Unit {0}
+Meets d x o (Err p) = Unit {0}
+Meets d x o (Ok (ConnectWish t e app)) = Unit {0}
+Meets d x o (Ok (CreateStream t)) = d.next_stream ≡ x
+Meets d x o (Ok (CloseStream y)) = d.seen ≡ o
+Meets d x o (Ok (DeleteStream y)) = d.seen ≡ o
+Meets d x o (Ok (PublishWish t a)) = Unit {0}
+Meets d x o (Ok (PlayWish t a)) = Unit {0}
+Meets d x o (Ok (Metadata read)) = d.seen ≡ o
+Meets d x o (Ok (PingRequest v)) = Unit {0}
+Meets d x o (Ok (PingResponse v)) = Unit {0}
+
+-- the same decision, if it is not refused for room, of two answers to whether a name may be filed
+abbrev AskedAlike : (Name → Decision) → (Name → Decision) → Result Name Refusal → Result Name Refusal → Type 0
+AskedAlike f g r q = for_room (number_of (on_asked (asked r) f).outcome) ≡ false → bare (on_asked (asked r) f) ≡ bare (on_asked (asked q) g)
 
 module _ (d : Desk) (app : Name) (x : ℕ) (o : Option Stream) (on : d.connected ≡ true) (here : d.app ≡ app) where
-  file_alike : (fits : Bool) (a b : Decision) → bare a ≡ bare b → for_room (number_of (filing d fits a).outcome) ≡ false → bare (filing d fits a) ≡ bare (filing (desk_for app x o) fits b)
-  unfolding filing request_room
-  file_alike false a b q h = refl
-  file_alike true a b q h =
-      pick_eq (λ (r : Room). for_room (number_of (on_room r a).outcome) ≡ false → bare (on_room r a) ≡ bare b) _ _ d.next_request 4294967295 (λ k h. absurd (true≢false h))
-      (λ k. pick_le (λ (r : Room). for_room (number_of (on_room r a).outcome) ≡ false → bare (on_room r a) ≡ bare b) _ _ 16 d.request_count (λ j h. absurd (true≢false h)) (λ j h. q)) h
+  asked_alike : (name : Option Name) (f g : Name → Decision) → ((n : Name) → bare (f n) ≡ bare (g n)) → AskedAlike f g (request_room d name) (request_room (desk_for app x o) name)
+  unfolding request_room
+  asked_alike None f g q = λ h. refl
+  asked_alike (Some n) f g q =
+      pick_eq (λ (r : Result Name Refusal). AskedAlike f g r (Ok n)) _ _ d.next_request 4294967295 (λ k h. absurd (true≢false h))
+      (λ k. pick_le (λ (r : Result Name Refusal). AskedAlike f g r (Ok n)) _ _ 16 d.request_count (λ j h. absurd (true≢false h)) (λ j h. q n))
 
   make_alike : (t : ℕ) → d.next_stream ≡ x → for_room (number_of (create_stream d t).outcome) ≡ false → bare (create_stream d t) ≡ bare (create_stream (desk_for app x o) t)
   unfolding create_stream
@@ -146,54 +154,48 @@ module _ (d : Desk) (app : Name) (x : ℕ) (o : Option Stream) (on : d.connected
       (λ k. pick_le (λ (r : Decision). for_room (number_of r.outcome) ≡ false → bare r ≡ bare (create_stream (desk_for app x o) t)) _ _ 16 d.stream_count (λ j h. absurd (true≢false h))
       (λ j h. rw (q, ne_eqb x 4294967295 (λ z. k (q ∙ z)))))
 
-  on_alike : (fits : Bool) (a b e : Decision) → bare a ≡ bare b → (c : Bool) → c ≡ true → for_room (number_of (pick c (filing d fits a) e).outcome) ≡ false
-      → bare (pick c (filing d fits a) e) ≡ bare (filing (desk_for app x o) fits b)
-  on_alike fits a b e q true k h = file_alike fits a b q h
-  on_alike fits a b e q false k h = absurd (true≢false (sym k))
+  on_alike : (name : Option Name) (f g : Name → Decision) (e : Decision) → ((n : Name) → bare (f n) ≡ bare (g n)) → (c : Bool) → c ≡ true
+      → for_room (number_of (on_asked (pick c (asked (request_room d name)) (Err e)) f).outcome) ≡ false
+      → bare (on_asked (pick c (asked (request_room d name)) (Err e)) f) ≡ bare (on_asked (asked (request_room (desk_for app x o) name)) g)
+  on_alike name f g e q true k h = asked_alike name f g q h
+  on_alike name f g e q false k h = absurd (true≢false (sym k))
 
-  publish_alike : (y : StreamId) (t : ℕ) (a : PublishArguments) (fits : Bool) (name : Name) → for_room (number_of (publish d y t a fits name).outcome) ≡ false
-      → bare (publish d y t a fits name) ≡ bare (publish (desk_for app x o) y t a fits name)
-  unfolding asking
-  publish_alike y t TooFew fits name h = refl
-  publish_alike y t KeyNoString fits name h = rw on
-  publish_alike y t ModeNoString fits name h = rw on
-  publish_alike y t ModeUnknown fits name h = rw on
-  publish_alike y t (PublishGood m) fits name h = on_alike fits _ _ _ (rw here) d.connected on h
+  publish_alike : (y : StreamId) (t : ℕ) (a : Result PublishArguments PublishFault) → for_room (number_of (publish d y t a).outcome) ≡ false
+      → bare (publish d y t a) ≡ bare (publish (desk_for app x o) y t a)
+  publish_alike y t (Ok a) h = on_alike a.key _ _ _ (λ n. rw here) d.connected on h
+  publish_alike y t (Err f) h = rw on
 
-  play_alike : (y : StreamId) (t : ℕ) (a : PlayArguments) (fits : Bool) (name : Name) → for_room (number_of (play d y t a fits name).outcome) ≡ false
-      → bare (play d y t a fits name) ≡ bare (play (desk_for app x o) y t a fits name)
-  unfolding asking
-  play_alike y t PlayTooFew fits name h = refl
-  play_alike y t PlayKeyNoString fits name h = rw on
-  play_alike y t (PlayGood start duration reset) fits name h = on_alike fits _ _ _ (rw here) d.connected on h
+  play_alike : (y : StreamId) (t : ℕ) (a : Result PlayArguments PlayFault) → for_room (number_of (play d y t a).outcome) ≡ false
+      → bare (play d y t a) ≡ bare (play (desk_for app x o) y t a)
+  play_alike y t (Ok a) h = on_alike a.key _ _ _ (λ n. rw here) d.connected on h
+  play_alike y t (Err f) h = rw on
 
-  pub want_alike : (v : Want) → ConnectlessWant v → Meets d x o v → (y : StreamId) (fits : Bool) (name : Name) (m : StreamMetadata) → for_room (number_of (decide_want v d y fits name m).outcome) ≡ false
-      → bare (decide_want v d y fits name m) ≡ bare (decide_want v (desk_for app x o) y fits name m)
-  unfolding on_stream
-  want_alike Nothing n k y fits name m h = refl
-  want_alike (Refused p) n k y fits name m h = refl
-  want_alike (ConnectWant t e) n k y fits name m h = absurd n
-  want_alike (CreateStream t) n k y fits name m h = make_alike t k h
-  want_alike (CloseStream z) n k y fits name m h = rw (on, here, k)
-  want_alike (DeleteStream z) n k y fits name m h = rw (on, here, k)
-  want_alike (PublishWant t a) n k y fits name m h = publish_alike y t a fits name h
-  want_alike (PlayWant t a) n k y fits name m h = play_alike y t a fits name h
-  want_alike Metadata n k y fits name m h = rw (on, here, k)
-  want_alike (PingRequest v) n k y fits name m h = refl
-  want_alike (PingResponse v) n k y fits name m h = refl
+  pub want_alike : (v : Result Wish Refusal) → ConnectlessWant v → Meets d x o v → (y : StreamId) → for_room (number_of (decide_read d y v).outcome) ≡ false
+      → bare (decide_read d y v) ≡ bare (decide_read (desk_for app x o) y v)
+  unfolding decide on_stream
+  want_alike (Ok Nothing) n k y h = refl
+  want_alike (Ok (ConnectWish t e name)) n k y h = absurd n
+  want_alike (Ok (CreateStream t)) n k y h = make_alike t k h
+  want_alike (Ok (CloseStream z)) n k y h = rw (on, here, k)
+  want_alike (Ok (DeleteStream z)) n k y h = rw (on, here, k)
+  want_alike (Ok (PublishWish t a)) n k y h = publish_alike y t a h
+  want_alike (Ok (PlayWish t a)) n k y h = play_alike y t a h
+  want_alike (Ok (Metadata read)) n k y h = rw (on, here, k)
+  want_alike (Ok (PingRequest v)) n k y h = refl
+  want_alike (Ok (PingResponse v)) n k y h = refl
+  want_alike (Err p) n k y h = refl
 
 -- ---- a decision of a request, its number apart
 module _ (q : Request) where
   grant_alike : (k : RequestKind) (found : Bool) → bare (granted k q found) ≡ bare (granted k (unnumbered q) found)
-  unfolding settled
   grant_alike Connect found = refl
   grant_alike Publish true = refl
   grant_alike Publish false = refl
   grant_alike Play true = refl
   grant_alike Play false = refl
 
-  pub accept_alike : (found : Bool) → bare (accept_request (found_request (some q)) found) ≡ bare (accept_request (found_request (some (unnumbered q))) found)
-  unfolding accept_request on_waiting
+  pub accept_alike : (found : Bool) → bare (accept_request (Some q) found) ≡ bare (accept_request (Some (unnumbered q)) found)
+  unfolding accept_request
   accept_alike found = grant_alike q.kind found
 
   reject_same : (k : RequestKind) → rejection k q ≡ rejection k (unnumbered q)
@@ -201,36 +203,36 @@ module _ (q : Request) where
   reject_same Publish = refl
   reject_same Play = refl
 
-  pub reject_alike : (b : Bool) → bare (reject_request (found_request (some q)) b) ≡ bare (reject_request (found_request (some (unnumbered q))) b)
-  unfolding reject_request on_waiting
+  pub reject_alike : (b : Bool) → bare (reject_request (Some q) b) ≡ bare (reject_request (Some (unnumbered q)) b)
+  unfolding reject_request
   reject_alike true = rw (reject_same q.kind)
   reject_alike false = refl
 
 -- ---- the answer, request numbers apart
-plain_twice : (e : Event) → plain_event e ≡ plain_event (plain_event e)
-plain_twice NoEvent = refl
-plain_twice (ConnectionRequested n) = refl
-plain_twice (PublishStreamRequested n mode) = refl
-plain_twice (PlayStreamRequested n start duration reset x) = refl
-plain_twice PublishStreamFinished = refl
-plain_twice PlayStreamFinished = refl
-plain_twice StreamMetadataChanged = refl
-plain_twice (AudioDataReceived t) = refl
-plain_twice (VideoDataReceived t) = refl
-plain_twice (PingResponseReceived t) = refl
+plain_twice : (e : Option Event) → plain_event e ≡ plain_event (plain_event e)
+plain_twice None = refl
+plain_twice (Some (ConnectionRequested n)) = refl
+plain_twice (Some (PublishStreamRequested n mode)) = refl
+plain_twice (Some (PlayStreamRequested n start duration reset x)) = refl
+plain_twice (Some PublishStreamFinished) = refl
+plain_twice (Some PlayStreamFinished) = refl
+plain_twice (Some StreamMetadataChanged) = refl
+plain_twice (Some (AudioDataReceived t)) = refl
+plain_twice (Some (VideoDataReceived t)) = refl
+plain_twice (Some (PingResponseReceived t)) = refl
 
 heard_bare : (d : Decision) (n t : ℕ) (out : List ℕ) → plain (heard d n t out) ≡ plain (heard (bare d) n t out)
 heard_bare d n t out =
-    ap (λ (e : Event). record { outcome = d.outcome; event = e; app = d.app; key = d.key; metadata = d.metadata; count = n; timestamp = t; out = out }) (plain_twice d.event)
+    ap (λ (e : Option Event). record { outcome = d.outcome; event = e; app = d.app; key = d.key; metadata = d.metadata; count = n; timestamp = t; out = out }) (plain_twice d.event)
 
-fitted_bare : (d : Decision) (b : Bool) (n : ℕ) (out : List ℕ) → plain (fitted d b n out) ≡ plain (fitted (bare d) b n out)
-fitted_bare d true n out = heard_bare d n 0 out
-fitted_bare d false n out = refl
+fitted_bare : (d : Decision) (n : Option ℕ) (out : List ℕ) → plain (fitted d n out) ≡ plain (fitted (bare d) n out)
+fitted_bare d (Some n) out = heard_bare d n 0 out
+fitted_bare d None out = refl
 
 written_bare : (k : Constants) (d : Decision) (code description : List ℕ) (clock : ℕ) (out : List ℕ) → plain (written k d code description clock out) ≡ plain (written k (bare d) code description clock out)
 written_bare k d code description clock out =
     let r = sent (records_of k d code description clock) out in
-    fitted_bare d r.0.fits r.0.count r.1
+    fitted_bare d r.0 r.1
 
 answer_bare : (k : Constants) (d : Decision) (c : Call) → plain (answer_by k d c) ≡ plain (answer_by k (bare d) c)
 answer_bare k d (message type x timestamp clock body out) = written_bare k d [] [] clock out
@@ -248,12 +250,12 @@ answers_alike k d e c q = answer_bare k d c ∙ ap (λ (z : Decision). plain (an
 
 -- the stream that a call belongs to, in the session
 abbrev pub owner_in : Session → Doing → Option ℕ
-owner_in s (Wants x w) = owner_of_want s.next_stream x w.want
-owner_in s (Shows x e) = some x.0
-owner_in s Rests = none
+owner_in s (Wants x w) = owner_of_want s.next_stream x w
+owner_in s (Shows x e) = Some x.0
+owner_in s Rests = None
 owner_in s (Accepts n) = stream_in (request_of s n.0)
 owner_in s (Rejects n b) = stream_in (request_of s n.0)
-owner_in s (Finishes x) = some x.0
+owner_in s (Finishes x) = Some x.0
 owner_in s (Sends x) = x
 
 module _ (s : Session) (h : Good s) where
@@ -261,7 +263,7 @@ module _ (s : Session) (h : Good s) where
   same true o = refl
   same false o = refl
 
-  set_at : (e old : Stream) (x y : ℕ) → e.id.0 ≡ x → stream_of s x ≡ some old → stream_of (with_changed s e) y ≡ pick (eqb x y) (some e) (stream_of s y)
+  set_at : (e old : Stream) (x y : ℕ) → e.id.0 ≡ x → stream_of s x ≡ Some old → stream_of (with_changed s e) y ≡ pick (eqb x y) (Some e) (stream_of s y)
   set_at e old x y q f =
       pick_eq (λ (o : Option Stream). stream_of (with_changed s e) y ≡ o) _ _ x y
       (λ z. ap (stream_of (with_changed s e)) (sym (q ∙ z)) ∙ set_same s h e old (ap (stream_of s) q ∙ f)) (λ z. set_other s h e y (λ u. z (sym q ∙ u)))
@@ -273,8 +275,8 @@ module _ (s : Session) (h : Good s) where
   did_stream (made q m k) y =
       let e : Stream = created (record { 0 = s.next_stream }) in
       rw q (pick_eq (λ (o : Option Stream). stream_of (with_stream s e) y ≡ o) _ _ s.next_stream y (λ z. ap (stream_of (with_stream s e)) (sym z) ∙ made_same s h e k refl) (λ z. made_other s h e k y z))
-  did_stream (files {y = x} {w = w} f i k a) y = same (owns y (owner_of_want s.next_stream x w.want)) (stream_of s y)
-  did_stream (connects {y = x} {w = w} f i k a) y = same (owns y (owner_of_want s.next_stream x w.want)) (stream_of s y)
+  did_stream (files {y = x} {w = w} f i k a) y = same (owns y (owner_of_want s.next_stream x w)) (stream_of s y)
+  did_stream (connects {y = x} {w = w} f i k a) y = same (owns y (owner_of_want s.next_stream x w)) (stream_of s y)
   did_stream (closed {x = x} {e = e} q c f k) y = rw (k.change, q) (set_at (created e.id) e x.0 y (stream_number_lem s h x.0 e f) f)
   did_stream (deleted {x = x} {e = e} q c f k) y =
       rw (k.change, q, stream_number_lem s h x.0 e f)
@@ -285,7 +287,7 @@ module _ (s : Session) (h : Good s) where
   did_stream (missed {n = n} f k p) y = same (owns y (stream_in (request_of s n.0))) (stream_of s y)
   did_stream (rejects {n = n} f) y = same (owns y (stream_in (request_of s n.0))) (stream_of s y)
 
-  pub did_own : {g : Doing} {d : Decision} → Did s g d → (x : ℕ) → owner_in s g ≡ some x → stream_of (applied s d.change) x ≡ own_stream d (stream_of s x)
+  pub did_own : {g : Doing} {d : Decision} → Did s g d → (x : ℕ) → owner_in s g ≡ Some x → stream_of (applied s d.change) x ≡ own_stream d (stream_of s x)
   did_own k x o = did_stream k x ∙ rw (o, eq-eqb x x refl)
 
   pub did_other : {g : Doing} {d : Decision} → Did s g d → (y : ℕ) → owns y (owner_in s g) ≡ false → stream_of (applied s d.change) y ≡ stream_of s y
@@ -293,10 +295,10 @@ module _ (s : Session) (h : Good s) where
 
   -- ---- what stays where there is no connect business
   abbrev pub Calm : Doing → Type 0
-  Calm (Wants x w) = ConnectlessWant w.want
+  Calm (Wants x w) = ConnectlessWant w
   Calm (Shows x e) = Unit {0}
   Calm Rests = Unit {0}
-  Calm (Accepts n) = (r : Request) → request_of s n.0 ≡ some r → r.kind ≡ Connect → ⊥
+  Calm (Accepts n) = (r : Request) → request_of s n.0 ≡ Some r → r.kind ≡ Connect → ⊥
   Calm (Rejects n b) = Unit {0}
   Calm (Finishes x) = Unit {0}
   Calm (Sends x) = Unit {0}
@@ -316,21 +318,21 @@ module _ (s : Session) (h : Good s) where
   did_same (missed f k p) z = (refl, refl, refl)
   did_same (rejects f) z = (refl, refl, refl)
 
-  want_born : (v : Want) (o : Outcome) → StillWant s v o → for_room (number_of o) ≡ false → makes v ≡ 0
-  want_born Nothing o k r = refl
-  want_born (Refused p) o k r = refl
-  want_born (ConnectWant t e) o k r = refl
-  want_born (CreateStream t) o k r = absurd (true≢false (sym k.1 ∙ r))
-  want_born (CloseStream y) o k r = refl
-  want_born (DeleteStream y) o k r = refl
-  want_born (PublishWant t a) o k r = refl
-  want_born (PlayWant t a) o k r = refl
-  want_born Metadata o k r = refl
-  want_born (PingRequest v) o k r = refl
-  want_born (PingResponse v) o k r = refl
+  want_born : (v : Result Wish Refusal) (o : Outcome) → StillWant s v o → for_room (number_of o) ≡ false → makes v ≡ 0
+  want_born (Ok Nothing) o k r = refl
+  want_born (Err p) o k r = refl
+  want_born (Ok (ConnectWish t e app)) o k r = refl
+  want_born (Ok (CreateStream t)) o k r = absurd (true≢false (sym k.1 ∙ r))
+  want_born (Ok (CloseStream y)) o k r = refl
+  want_born (Ok (DeleteStream y)) o k r = refl
+  want_born (Ok (PublishWish t a)) o k r = refl
+  want_born (Ok (PlayWish t a)) o k r = refl
+  want_born (Ok (Metadata read)) o k r = refl
+  want_born (Ok (PingRequest v)) o k r = refl
+  want_born (Ok (PingResponse v)) o k r = refl
 
   still_born : (g : Doing) (d : Decision) → Still s g d → for_room (number_of d.outcome) ≡ false → made_by g ≡ 0
-  still_born (Wants x w) d k r = want_born w.want d.outcome k r
+  still_born (Wants x w) d k r = want_born w d.outcome k r
   still_born (Shows x e) d k r = refl
   still_born Rests d k r = refl
   still_born (Accepts n) d k r = refl
@@ -353,14 +355,14 @@ module _ (s : Session) (h : Good s) where
   did_births (rejects f) r = omega arith
 
   -- ---- requests: an older number that is found was there before
-  drop_back : (m : ℕ) (r : Request) → request_of s m ≡ some r → (n : ℕ) (q : Request) → request_of (without_request s r.id.0) n ≡ some q → request_of s n ≡ some q
+  drop_back : (m : ℕ) (r : Request) → request_of s m ≡ Some r → (n : ℕ) (q : Request) → request_of (without_request s r.id.0) n ≡ Some q → request_of s n ≡ Some q
   drop_back m r f n q e =
       let o = own_request s h m r f in
-      same_or r.id.0 n (request_of s n ≡ some q)
+      same_or r.id.0 n (request_of s n ≡ Some q)
       (λ z. absurd (not_none _ _ e (ap (request_of (without_request s r.id.0)) (sym z) ∙ dropped_same s h r.id.0 r o)))
       (λ z. sym (dropped_other s h r.id.0 r o n z) ∙ e)
 
-  pub did_back : {g : Doing} {d : Decision} → Did s g d → (n : ℕ) (q : Request) → n < s.next_request → request_of (applied s d.change) n ≡ some q → request_of s n ≡ some q
+  pub did_back : {g : Doing} {d : Decision} → Did s g d → (n : ℕ) (q : Request) → n < s.next_request → request_of (applied s d.change) n ≡ Some q → request_of s n ≡ Some q
   unfolding applied with_stream with_changed without_stream
   did_back (still g d c n f k) m q lt = rw c (λ e. e)
   did_back (made p m k) n q lt = λ e. e
@@ -393,13 +395,13 @@ module _ (s : Session) (h : Good s) where
   filed_next r k = next_number s.next_request k.more
 
   -- an event with a number: it was the next one, and what waits under it now is what was asked for
-  pub did_files : {g : Doing} {d : Decision} → Did s g d → Calm g → (n : ℕ) → request_in d.event ≡ some n
-      → (n < (applied s d.change).next_request) × ((q : Request) → request_of (applied s d.change) n ≡ some q → doing_ask g ≡ some (unnumbered q))
+  pub did_files : {g : Doing} {d : Decision} → Did s g d → Calm g → (n : ℕ) → request_in d.event ≡ Some n
+      → (n < (applied s d.change).next_request) × ((q : Request) → request_of (applied s d.change) n ≡ Some q → doing_ask g ≡ Some (unnumbered q))
   unfolding applied
   did_files (still g d c n f k) z m e = absurd (not_none _ _ e f)
   did_files (made q m k) z n e = absurd (not_none _ _ e refl)
   did_files (files {y = y} {event = event} {app = app} {key = key} {r = r} f i k a) z n e =
-      let u : r.id.0 ≡ n = same_found _ _ _ (filed_number y event app key (as_filed r) f) e in
+      let u : r.id.0 ≡ n = same_found _ _ _ (filed_number y (Some event) app key (as_filed r) f) e in
       let v = k.number in
       (rw (filed_next r k) (omega arith), λ q w. a ∙ ap waiting_ask (sym (ap (request_of (with_request s r)) (sym u) ∙ filed_same s h r k.place k.number) ∙ w))
   did_files (connects f i k a) z n e = absurd (rw a.0 at z)

@@ -3,8 +3,8 @@ use mathlib.Core.Path.{◌≡◌, refl, sym, ap, ◌∙◌}
 use Prim.Native.Nat.{ℕ, ◌+◌}
 use mathlib.Core.Bool.{true}
 use mathlib.Core.List.{List, [], ◌∷◌, ◌++◌}
-use mathlib.Core.Option.{Option, some, none}
 use lib.Dec.{eqb}
+use Rattle.std.specs.Prelude.{Option, Some, None}
 use Rattle.numbers.specs.Choose.{pick}
 use Rattle.numbers.proofs.ChooseLaws.{pick_elim}
 use Rattle.text.specs.declared.names.Name.{Name}
@@ -22,23 +22,23 @@ use Rattle.story.proofs.MachineLaws.{own_answer}
 use Rattle.story.proofs.SimulationLaws.{Sim, machine, machine_answers, own_answers, replies_own, replies_of, reply, sim, turn, under_here, under_past}
 
 -- ---- a permutation of steps with tags given once: the same tags, each with the same act
-absent : {A : Type 0} (t : ℕ) (p : Tagged A) (l : List (Tagged A)) → under t (p ∷ l) ≡ none → (p.tag ≡ t → ⊥) × (under t l ≡ none)
+absent : {A : Type 0} (t : ℕ) (p : Tagged A) (l : List (Tagged A)) → under t (p ∷ l) ≡ None → (p.tag ≡ t → ⊥) × (under t l ≡ None)
 absent t p l h =
-    same_or p.tag t ((p.tag ≡ t → ⊥) × (under t l ≡ none)) (λ e. absurd (not_none _ _ (under_here t p l e) h)) (λ e. (e, sym (under_past t p l e) ∙ h))
+    same_or p.tag t ((p.tag ≡ t → ⊥) × (under t l ≡ None)) (λ e. absurd (not_none _ _ (under_here t p l e) h)) (λ e. (e, sym (under_past t p l e) ∙ h))
 
 pub permuted_same : {A : Type 0} {l m : List (Tagged A)} → Permuted l m → Once l → Once m × ((t : ℕ) → under t l ≡ under t m)
 unfolding under
 permuted_same nil d = (tt, λ t. refl)
 permuted_same (keep p q) d =
     let i = permuted_same q d.1 in
-    ((sym (i.1 p.tag) ∙ d.0, i.0), λ t. ap (pick (eqb p.tag t) (some p.held)) (i.1 t))
+    ((sym (i.1 p.tag) ∙ d.0, i.0), λ t. ap (pick (eqb p.tag t) (Some p.held)) (i.1 t))
 permuted_same (swap p q l) d =
     let b = absent p.tag q l d.0 in
     let ne : p.tag ≡ q.tag → ⊥ = λ e. b.0 (sym e) in (
       (under_past q.tag p l ne ∙ d.1.0, (b.1, d.1.1)),
       λ t. same_or p.tag t (under t (p ∷ (q ∷ l)) ≡ under t (q ∷ (p ∷ l)))
           (λ e. under_here t p (q ∷ l) e ∙ sym (under_past t q (p ∷ l) (λ k. b.0 (k ∙ sym e)) ∙ under_here t p l e))
-          (λ e. under_past t p (q ∷ l) e ∙ sym (ap (pick (eqb q.tag t) (some q.held)) (under_past t p l e))),
+          (λ e. under_past t p (q ∷ l) e ∙ sym (ap (pick (eqb q.tag t) (Some q.held)) (under_past t p l e))),
     )
 permuted_same (trans a b) d =
     let i = permuted_same a d in
@@ -49,44 +49,44 @@ permuted_same (trans a b) d =
 abbrev answered : Session → Tagged Act → List (Tagged Act) → Tagged Response
 answered s p older = record { tag = p.tag; held = answer_to s older p.held }
 
-absent_answer : (s : Session) (t : ℕ) (l : List (Tagged Act)) → under t l ≡ none → under t (go s l).1 ≡ none
+absent_answer : (s : Session) (t : ℕ) (l : List (Tagged Act)) → under t l ≡ None → under t (go s l).1 ≡ None
 unfolding under go
 absent_answer s t [] h = refl
 absent_answer s t (p ∷ older) h =
     let b = absent t p older h in
     under_past t (answered s p older) (go s older).1 b.0 ∙ absent_answer s t older b.1
 
-absent_reply : (s : Session) (x t : ℕ) (l : List (Tagged Act)) → under t l ≡ none → under t (replies_of s x l) ≡ none
+absent_reply : (s : Session) (x t : ℕ) (l : List (Tagged Act)) → under t l ≡ None → under t (replies_of s x l) ≡ None
 unfolding under replies_of
 absent_reply s x t [] h = refl
 absent_reply s x t (p ∷ older) h =
     let b = absent t p older h in
-    pick_elim (λ (r : List (Tagged Response)). under t r ≡ none) _ _ (owns x (owner s older p.held))
+    pick_elim (λ (r : List (Tagged Response)). under t r ≡ None) _ _ (owns x (owner s older p.held))
     (λ k. under_past t (reply s p older) (replies_of s x older) b.0 ∙ absent_reply s x t older b.1)
     (λ k. absent_reply s x t older b.1)
 
 -- what x's own replies say of a tag is the answer to that tag
-settled : (s : Session) (x t : ℕ) (a : Response) (l : List (Tagged Act)) → Once l → under t (replies_of s x l) ≡ some a → plain_answer (under t (go s l).1) ≡ some a
+settled : (s : Session) (x t : ℕ) (a : Response) (l : List (Tagged Act)) → Once l → under t (replies_of s x l) ≡ Some a → plain_answer (under t (go s l).1) ≡ Some a
 unfolding under replies_of go
 settled s x t a [] d h = absurd (not_none _ _ h refl)
 settled s x t a (p ∷ older) d h =
-    same_or p.tag t (plain_answer (under t (answered s p older ∷ (go s older).1)) ≡ some a)
+    same_or p.tag t (plain_answer (under t (answered s p older ∷ (go s older).1)) ≡ Some a)
     (λ e. ap plain_answer (under_here t (answered s p older) (go s older).1 e)
-    ∙ pick_elim (λ (r : List (Tagged Response)). under t r ≡ some a → some (plain (answer_to s older p.held)) ≡ some a) _ _ (owns x (owner s older p.held))
+    ∙ pick_elim (λ (r : List (Tagged Response)). under t r ≡ Some a → Some (plain (answer_to s older p.held)) ≡ Some a) _ _ (owns x (owner s older p.held))
     (λ k i. sym (under_here t (reply s p older) (replies_of s x older) e) ∙ i)
     (λ k i. absurd (not_none _ _ i (absent_reply s x t older (ap (λ (j : ℕ). under j older) (sym e) ∙ d.0)))) h)
     (λ e. ap plain_answer (under_past t (answered s p older) (go s older).1 e) ∙ settled s x t a older d.1
-    (pick_elim (λ (r : List (Tagged Response)). under t r ≡ some a → under t (replies_of s x older) ≡ some a) _ _ (owns x (owner s older p.held))
+    (pick_elim (λ (r : List (Tagged Response)). under t r ≡ Some a → under t (replies_of s x older) ≡ Some a) _ _ (owns x (owner s older p.held))
     (λ k i. sym (under_past t (reply s p older) (replies_of s x older) e) ∙ i) (λ k i. i) h))
 
 -- the answer to a step without a stream, wherever it stands
 abbrev free_answer : Session → Act → Response
-free_answer s act = own_answer s 0 none [] act
+free_answer s act = own_answer s 0 None [] act
 
 data Fate (s : Session) (l : List (Tagged Act)) (t : ℕ) : Type 0 where
-  missing : under t l ≡ none → Fate s l t
-  freely : (act : Act) → under t l ≡ some act → plain_answer (under t (go s l).1) ≡ some (free_answer s act) → Fate s l t
-  owned : (x : ℕ) (a : Response) → under t (replies_of s x l) ≡ some a → plain_answer (under t (go s l).1) ≡ some a → Fate s l t
+  missing : under t l ≡ None → Fate s l t
+  freely : (act : Act) → under t l ≡ Some act → plain_answer (under t (go s l).1) ≡ Some (free_answer s act) → Fate s l t
+  owned : (x : ℕ) (a : Response) → under t (replies_of s x l) ≡ Some a → plain_answer (under t (go s l).1) ≡ Some a → Fate s l t
 
 module _ (s : Session) (g : Good s) (t : ℕ) (p : Tagged Act) (older : List (Tagged Act)) where
   fate_past : (p.tag ≡ t → ⊥) → Fate s older t → Fate s (p ∷ older) t
@@ -95,7 +95,7 @@ module _ (s : Session) (g : Good s) (t : ℕ) (p : Tagged Act) (older : List (Ta
   fate_past e (freely act h k) = freely act (under_past t p older e ∙ h) (ap plain_answer (under_past t (answered s p older) (go s older).1 e) ∙ k)
   fate_past e (owned x a h k) =
       owned x a
-      (pick_elim (λ (r : List (Tagged Response)). under t r ≡ some a) _ _ (owns x (owner s older p.held)) (λ b. under_past t (reply s p older) (replies_of s x older) e ∙ h) (λ b. h))
+      (pick_elim (λ (r : List (Tagged Response)). under t r ≡ Some a) _ _ (owns x (owner s older p.held)) (λ b. under_past t (reply s p older) (replies_of s x older) e ∙ h) (λ b. h))
       (ap plain_answer (under_past t (answered s p older) (go s older).1 e) ∙ k)
 
   fate_here : p.tag ≡ t → Sim s older → NoConnect s older p.held → HasRoom s older p.held → Finds s older p.held → Fate s (p ∷ older) t
@@ -103,11 +103,11 @@ module _ (s : Session) (g : Good s) (t : ℕ) (p : Tagged Act) (older : List (Ta
   fate_here e m n r f = at (owner s older p.held) refl
     where
       at : (o : Option ℕ) → owner s older p.held ≡ o → Fate s (p ∷ older) t
-      at none o =
+      at None o =
           let u = turn s g older m.core p.held n r f in
           freely p.held (under_here t p older e)
-          (ap plain_answer (under_here t (answered s p older) (go s older).1 e) ∙ ap some (own_answers s g p older m.core r u 0 none [] (u.free o)))
-      at (some x) o =
+          (ap plain_answer (under_here t (answered s p older) (go s older).1 e) ∙ ap Some (own_answers s g p older m.core r u 0 None [] (u.free o)))
+      at (Some x) o =
           owned x (plain (answer_to s older p.held))
           (ap (under t) (replies_own s p older x o) ∙ under_here t (reply s p older) (replies_of s x older) e)
           (ap plain_answer (under_here t (answered s p older) (go s older).1 e))
@@ -139,12 +139,12 @@ from_connected s good on l m w =
     by a b q t (freely v h k) (missing e) = absurd (not_none _ _ h (q.1 t ∙ e))
     by a b q t (freely v h k) (freely u e i) =
         let c : v ≡ u = same_found _ _ _ h (q.1 t ∙ e) in
-        k ∙ ap (λ (j : Act). some (free_answer s j)) c ∙ sym i
+        k ∙ ap (λ (j : Act). Some (free_answer s j)) c ∙ sym i
     by a b q t (freely v h k) (owned x z e i) = settled s x t z l w.tags (ap (under t) (a.told x ∙ ap (machine_answers s x) (w.same_order x) ∙ sym (b.told x)) ∙ e) ∙ sym i
 
 -- "take two runs with the same steps up to an accepted connect", and with the premises on what follows:
 -- "Then each step gives the same answer, request numbers apart, and each stream ends alike."
-pub two_runs : (b : Start) (common : List Call) (app : Name) (l m : List (Tagged Act)) → joined (told b common) ≡ some app → Premises (after b common) l m → Alike (after b common) l m
+pub two_runs : (b : Start) (common : List Call) (app : Name) (l m : List (Tagged Act)) → joined (told b common) ≡ Some app → Premises (after b common) l m → Alike (after b common) l m
 two_runs b common app l m j =
     let s : Session = after b common in
     from_connected s (good_after b common) (linked_on (connected s) s.app app ((follows b common).links ∙ j)) l m

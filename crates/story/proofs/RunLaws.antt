@@ -1,10 +1,10 @@
 -- Every run from a start: its session is good, and follows what was told.
 use mathlib.Core.Path.{◌≡◌, refl}
 use Prim.Native.Nat.{ℕ}
-use native.Mathlib.Omega.{arith}
 use mathlib.Core.Bool.{Bool, true, false}
 use mathlib.Core.List.{List, [], ◌∷◌}
 use lib.ListN.{length}
+use Rattle.std.specs.Prelude.{Option, Some, None}
 use Rattle.numbers.specs.Choose.{pick}
 use Rattle.numbers.proofs.ChooseLaws.{pick_elim}
 use Rattle.text.specs.Names.{empty_name, name_of}
@@ -12,12 +12,10 @@ use Rattle.text.specs.declared.names.Name.{Name}
 use Rattle.record.specs.Records.{start_records}
 use Rattle.answers.specs.Sending.{sent}
 use Rattle.tables.specs.Tables.{look, sound}
-use Rattle.wishes.specs.declared.outcome.Outcome.TheVariants.{NoRoom}
 use Rattle.session.specs.State.{connected, fresh_session}
 use Rattle.session.specs.declared.session.Session.{Session}
-use Rattle.replies.specs.Answers.{idle, refusal}
 use Rattle.replies.specs.declared.answer.Answer.{Answer}
-use Rattle.calls.specs.Calls.{bad_config, blank_session, starting}
+use Rattle.calls.specs.Calls.{bad_config, blank_session, opened, starting}
 use Rattle.calls.proofs.SoundTheorems.{start_sound}
 use Rattle.story.specs.Steps.{Call, Response}
 use Rattle.story.specs.Doings.{doing}
@@ -37,21 +35,20 @@ pub record Fresh (s : Session) : Type 0 where
 blank : Fresh blank_session
 blank = record { clock = 0; version = empty_name; is = refl }
 
-opens : (clock : ℕ) (version : Name) (n : ℕ) (b : Bool) → Fresh (pick b (idle (fresh_session clock version) n) (refusal NoRoom blank_session)).session
-opens clock version n true = record { clock = clock; version = version; is = refl }
-opens clock version n false = blank
+opens : (clock : ℕ) (version : Name) (n : Option ℕ) → Fresh (opened clock version n).session
+opens clock version (Some n) = record { clock = clock; version = version; is = refl }
+opens clock version None = blank
 
 pub start_fresh : (b : Start) → Fresh (start_of b).0.session
 unfolding starting name_of
 start_fresh b =
     pick_elim (λ (a : Answer × List ℕ). Fresh a.0.session) _ _ (bad_config b.chunk b.version) (λ q. blank)
-    (λ q. let r = (sent (start_records b.chunk b.window b.bandwidth b.finish) b.out).0 in
-    opens b.clock (name_of b.version) r.count r.fits)
+    (λ q. opens b.clock (name_of b.version) (sent (start_records b.chunk b.window b.bandwidth b.finish) b.out).0)
 
 fresh_follows : {s : Session} → Fresh s → Follows s []
 unfolding connected look joined filed decided creations last_effective filings decisions
 fresh_follows f =
-    rw f.is (record { links = refl; waits = λ n. refl; gone = λ n e. let z : ◌≡◌ {A = ℕ} 0 1 = cc in absurd (omega arith); makes_next = refl; agrees = λ x. refl; counts = refl })
+    rw f.is (record { links = refl; waits = λ n. refl; gone = λ n e. absurd cc; makes_next = refl; agrees = λ x. refl; counts = refl })
 
 start_good : (b : Start) → Good (start_of b).0.session
 start_good b =

@@ -4,9 +4,9 @@ use Prim.Native.Nat.{ℕ, ◌+◌, ◌-◌, ◌≤◌, ◌<◌}
 use native.Mathlib.Omega.{arith}
 use mathlib.Core.Bool.{true}
 use mathlib.Core.List.{[], ◌∷◌, ◌++◌}
-use mathlib.Core.Option.{some, none}
 use lib.ListN.{length, take, set, length-set}
 use borrow.Author.Tests.{lt-leb, ne_eqb}
+use Rattle.std.specs.Prelude.{Some, None}
 use Rattle.tables.specs.Entries.{no_request, no_stream, request_name, request_number, stream_name, stream_number}
 use Rattle.tables.specs.Tables.{look, table_sound}
 use Rattle.tables.specs.declared.requests.Request.{Request}
@@ -38,10 +38,10 @@ module _ (s : Session) (g : Good s) where
   requests_sound = (says_sound s g.sound).requests
 
   -- ---- streams
-  pub stream_number_lem : (x : ℕ) (e : Stream) → stream_of s x ≡ some e → e.id.0 ≡ x
+  pub stream_number_lem : (x : ℕ) (e : Stream) → stream_of s x ≡ Some e → e.id.0 ≡ x
   stream_number_lem x e f = found_number stream_number stream_name x _ e f
 
-  pub stream_absent : (x : ℕ) → s.next_stream ≤ x → stream_of s x ≡ none
+  pub stream_absent : (x : ℕ) → s.next_stream ≤ x → stream_of s x ≡ None
   stream_absent x h = look_absent stream_number stream_name _ x _ (in_order stream_number stream_name _ _ _ streams_sound) h
 
   module _ (e : Stream) (k : s.stream_count < 16) where
@@ -51,7 +51,7 @@ module _ (s : Session) (g : Good s) where
         ap (λ (n : ℕ). take n (set s.streams s.stream_count e)) (next_count s.stream_count k)
         ∙ take_set stream_number stream_name _ _ _ streams_sound e (omega arith)
 
-    pub made_same : e.id.0 ≡ s.next_stream → stream_of (with_stream s e) e.id.0 ≡ some e
+    pub made_same : e.id.0 ≡ s.next_stream → stream_of (with_stream s e) e.id.0 ≡ Some e
     unfolding with_stream
     made_same q = ap (look stream_number e.id.0) stream_places_lem ∙ look_append_same stream_number e _ (stream_absent e.id.0 (omega arith))
 
@@ -59,7 +59,7 @@ module _ (s : Session) (g : Good s) where
     unfolding with_stream
     made_other x n = ap (look stream_number x) stream_places_lem ∙ look_append_other stream_number x e _ n
 
-  pub set_same : (e old : Stream) → stream_of s e.id.0 ≡ some old → stream_of (with_changed s e) e.id.0 ≡ some e
+  pub set_same : (e old : Stream) → stream_of s e.id.0 ≡ Some old → stream_of (with_changed s e) e.id.0 ≡ Some e
   unfolding with_changed
   set_same e old f = ap (look stream_number e.id.0) (take_changed stream_number stream_name _ _ _ streams_sound e) ∙ look_change_same stream_number e old _ f
 
@@ -67,8 +67,8 @@ module _ (s : Session) (g : Good s) where
   unfolding with_changed
   set_other e x n = ap (look stream_number x) (take_changed stream_number stream_name _ _ _ streams_sound e) ∙ look_change_other stream_number x e _ n
 
-  module _ (y : ℕ) (e : Stream) (f : stream_of s y ≡ some e) where
-    pub removed_same : stream_of (without_stream s y) y ≡ none
+  module _ (y : ℕ) (e : Stream) (f : stream_of s y ≡ Some e) where
+    pub removed_same : stream_of (without_stream s y) y ≡ None
     unfolding without_stream
     removed_same =
         ap (look stream_number y) (take_removed stream_number stream_name _ _ _ streams_sound no_stream y e f)
@@ -91,13 +91,13 @@ module _ (s : Session) (g : Good s) where
   set_places e = length_changed stream_number stream_name _ _ _ streams_sound e ∙ g.stream_places
 
   -- ---- requests
-  pub request_number_lem : (n : ℕ) (r : Request) → request_of s n ≡ some r → r.id.0 ≡ n
+  pub request_number_lem : (n : ℕ) (r : Request) → request_of s n ≡ Some r → r.id.0 ≡ n
   request_number_lem n r f = found_number request_number request_name n _ r f
 
-  pub request_below : (n : ℕ) (r : Request) → request_of s n ≡ some r → n < s.next_request
+  pub request_below : (n : ℕ) (r : Request) → request_of s n ≡ Some r → n < s.next_request
   request_below n r f = look_below request_number request_name _ n _ r (in_order request_number request_name _ _ _ requests_sound) f
 
-  pub request_absent : (n : ℕ) → s.next_request ≤ n → request_of s n ≡ none
+  pub request_absent : (n : ℕ) → s.next_request ≤ n → request_of s n ≡ None
   request_absent n h = look_absent request_number request_name _ n _ (in_order request_number request_name _ _ _ requests_sound) h
 
   module _ (r : Request) (k : s.request_count < 16) where
@@ -107,7 +107,7 @@ module _ (s : Session) (g : Good s) where
         ap (λ (n : ℕ). take n (set s.requests s.request_count r)) (next_count s.request_count k)
         ∙ take_set request_number request_name _ _ _ requests_sound r (omega arith)
 
-    pub filed_same : r.id.0 ≡ s.next_request → request_of (with_request s r) r.id.0 ≡ some r
+    pub filed_same : r.id.0 ≡ s.next_request → request_of (with_request s r) r.id.0 ≡ Some r
     unfolding with_request
     filed_same q = ap (look request_number r.id.0) request_places_lem ∙ look_append_same request_number r _ (request_absent r.id.0 (omega arith))
 
@@ -119,8 +119,8 @@ module _ (s : Session) (g : Good s) where
   unfolding with_request
   filed_places r = length-set s.requests s.request_count r ∙ g.request_places
 
-  module _ (m : ℕ) (r : Request) (f : request_of s m ≡ some r) where
-    pub dropped_same : request_of (without_request s m) m ≡ none
+  module _ (m : ℕ) (r : Request) (f : request_of s m ≡ Some r) where
+    pub dropped_same : request_of (without_request s m) m ≡ None
     unfolding without_request
     dropped_same =
         ap (look request_number m) (take_removed request_number request_name _ _ _ requests_sound no_request m r f)

@@ -4,26 +4,26 @@ use Prim.Native.Nat.{ℕ, ◌+◌, ◌≤◌, ◌<◌}
 use native.Mathlib.Omega.{arith}
 use mathlib.Core.Bool.{Bool, true, false}
 use mathlib.Core.List.{List, [], ◌∷◌}
-use mathlib.Core.Option.{Option, some, none}
 use borrow.Author.Tests.{eq-eqb, ne_eqb}
+use Rattle.std.specs.Prelude.{Option, Some, None, Result, Ok, Err, is_some}
 use Rattle.numbers.specs.Choose.{pick}
 use Rattle.numbers.proofs.ChooseLaws.{pick_elim}
 use Rattle.text.specs.declared.ids.RequestId.{RequestId}
 use Rattle.text.specs.declared.ids.StreamId.{StreamId}
 use Rattle.text.specs.declared.names.Name.{Name}
 use Rattle.answers.specs.Sending.{sent}
-use Rattle.tables.specs.Entries.{found_stream}
 use Rattle.tables.specs.declared.requests.Request.{Request}
 use Rattle.tables.specs.declared.requests.RequestKind.TheVariants.{Connect}
 use Rattle.tables.specs.declared.streams.Stream.{Stream}
 use Rattle.wishes.specs.Outcome.{number_of}
+use Rattle.wishes.specs.declared.outcome.Refusal.{Refusal}
 use Rattle.wishes.specs.declared.wish.PlayArguments.{PlayArguments}
-use Rattle.wishes.specs.declared.wish.PlayArguments.TheVariants.{TooFew as PlayTooFew, KeyNoString as PlayKeyNoString, Good as PlayGood}
+use Rattle.wishes.specs.declared.wish.PlayFault.{PlayFault}
 use Rattle.wishes.specs.declared.wish.PublishArguments.{PublishArguments}
-use Rattle.wishes.specs.declared.wish.PublishArguments.TheVariants.{TooFew, KeyNoString, ModeNoString, ModeUnknown, Good as PublishGood}
-use Rattle.wishes.specs.declared.wish.Want.{Want}
-use Rattle.wishes.specs.declared.wish.Want.TheVariants.{Nothing, Refused, CreateStream, CloseStream, DeleteStream, Metadata, PingRequest, PingResponse}
-use Rattle.wishes.specs.declared.wish.Want.TheVariants.{Connect as ConnectWant, Publish as PublishWant, Play as PlayWant}
+use Rattle.wishes.specs.declared.wish.PublishFault.{PublishFault}
+use Rattle.wishes.specs.declared.wish.Wish.{Wish}
+use Rattle.wishes.specs.declared.wish.Wish.TheVariants.{Nothing, CreateStream, CloseStream, DeleteStream, Metadata, PingRequest, PingResponse}
+use Rattle.wishes.specs.declared.wish.Wish.TheVariants.{Connect as ConnectWish, Publish as PublishWish, Play as PlayWish}
 use Rattle.session.specs.Changes.{applied}
 use Rattle.session.specs.Desk.{desk_of}
 use Rattle.session.specs.State.{connected, request_of, stream_of}
@@ -34,8 +34,9 @@ use Rattle.session.specs.declared.session.Session.{Session}
 use Rattle.streams.specs.Streams.{frame_of, shown_found}
 use Rattle.streams.specs.declared.streams.Frame.{Frame}
 use Rattle.steps.specs.Deciding.{decide, decided, subject_of}
+use Rattle.sending.specs.declared.sends.PingSent.{PingSent}
 use Rattle.replies.specs.Replies.{short}
-use Rattle.story.specs.Steps.{Call, Response, accept, finish, media, message, reject, send_audio, send_metadata, send_ping, send_video, step}
+use Rattle.story.specs.Steps.{Call, Response, accept, finish, media, message, pinged_as, reject, send_audio, send_metadata, send_ping, send_video, sent_as, step}
 use Rattle.story.specs.Doings.{Doing, Wants, Shows, Rests, Accepts, Rejects, Finishes, Sends, doing}
 use Rattle.story.specs.Orders.{Accept, Act, By, Connectless, Each, Finds, HasRoom, Log, NoConnect, Old, Plain, Ref, Reject, Tagged, act_ask, answer_to, ask_at, call_of, creates, creations_in, doing_ask, for_room, go, made_by, mine, number_in, or_else, owner, owner_of, owner_of_want, owns, plain, play_ask, publish_ask, request_in, resolve, stream_in, under, unnumbered, waiting_ask, want_ask}
 use Rattle.story.proofs.LookLaws.{not_none, same_found, same_or}
@@ -48,7 +49,7 @@ use Rattle.story.proofs.MachineLaws.{Calm, Meets, accept_alike, answers_alike, b
 
 -- ---- what is held under a tag
 module _ {A : Type 0} (t : ℕ) (p : Tagged A) (l : List (Tagged A)) where
-  pub under_here : p.tag ≡ t → under t (p ∷ l) ≡ some p.held
+  pub under_here : p.tag ≡ t → under t (p ∷ l) ≡ Some p.held
   unfolding under
   under_here h = simp (eq-eqb p.tag t h)
 
@@ -81,9 +82,9 @@ pub record Core (s : Session) (l : List (Tagged Act)) : Type 0 where
   pub app : (go s l).0.app ≡ s.app
   pub next : (go s l).0.next_stream ≡ s.next_stream + creations_in l
   pub base : s.next_request ≤ (go s l).0.next_request
-  pub old : (n : ℕ) (q : Request) → n < s.next_request → request_of (go s l).0 n ≡ some q → request_of s n ≡ some q
-  pub new : (t n : ℕ) → number_in (under t (go s l).1) ≡ some n
-      → (n < (go s l).0.next_request) × ((q : Request) → request_of (go s l).0 n ≡ some q → act_ask (under t l) ≡ some (unnumbered q))
+  pub old : (n : ℕ) (q : Request) → n < s.next_request → request_of (go s l).0 n ≡ Some q → request_of s n ≡ Some q
+  pub new : (t n : ℕ) → number_in (under t (go s l).1) ≡ Some n
+      → (n < (go s l).0.next_request) × ((q : Request) → request_of (go s l).0 n ≡ Some q → act_ask (under t l) ≡ Some (unnumbered q))
 
 pub record Sim (s : Session) (l : List (Tagged Act)) : Type 0 where
   pub core : Core s l
@@ -92,58 +93,54 @@ pub record Sim (s : Session) (l : List (Tagged Act)) : Type 0 where
 
 -- ---- mine, step by step
 module _ (s : Session) (p : Tagged Act) (older : List (Tagged Act)) where
-  pub mine_own : (x : ℕ) → owner s older p.held ≡ some x → mine s x (p ∷ older) ≡ p ∷ mine s x older
+  pub mine_own : (x : ℕ) → owner s older p.held ≡ Some x → mine s x (p ∷ older) ≡ p ∷ mine s x older
   unfolding mine
   mine_own x o = rw o (simp (eq-eqb x x refl))
 
-  mine_other : (x y : ℕ) → owner s older p.held ≡ some x → (x ≡ y → ⊥) → mine s y (p ∷ older) ≡ mine s y older
+  mine_other : (x y : ℕ) → owner s older p.held ≡ Some x → (x ≡ y → ⊥) → mine s y (p ∷ older) ≡ mine s y older
   unfolding mine
   mine_other x y o n = rw o (simp (ne_eqb x y n))
 
-  mine_none : (y : ℕ) → owner s older p.held ≡ none → mine s y (p ∷ older) ≡ mine s y older
+  mine_none : (y : ℕ) → owner s older p.held ≡ None → mine s y (p ∷ older) ≡ mine s y older
   unfolding mine
   mine_none y o = rw o
 
-  pub replies_own : (x : ℕ) → owner s older p.held ≡ some x → replies_of s x (p ∷ older) ≡ reply s p older ∷ replies_of s x older
+  pub replies_own : (x : ℕ) → owner s older p.held ≡ Some x → replies_of s x (p ∷ older) ≡ reply s p older ∷ replies_of s x older
   unfolding replies_of
   replies_own x o = rw o (simp (eq-eqb x x refl))
 
-  replies_other : (x y : ℕ) → owner s older p.held ≡ some x → (x ≡ y → ⊥) → replies_of s y (p ∷ older) ≡ replies_of s y older
+  replies_other : (x y : ℕ) → owner s older p.held ≡ Some x → (x ≡ y → ⊥) → replies_of s y (p ∷ older) ≡ replies_of s y older
   unfolding replies_of
   replies_other x y o n = rw o (simp (ne_eqb x y n))
 
-  replies_none : (y : ℕ) → owner s older p.held ≡ none → replies_of s y (p ∷ older) ≡ replies_of s y older
+  replies_none : (y : ℕ) → owner s older p.held ≡ None → replies_of s y (p ∷ older) ≡ replies_of s y older
   unfolding replies_of
   replies_none y o = rw o
 
 -- ---- a filing step of x is among x's own
-publish_owner : (x : StreamId) (a : PublishArguments) (name : Name) (q : Request) → publish_ask x a name ≡ some q → some x.0 ≡ some q.stream.0
-publish_owner x TooFew name q h = absurd (not_none _ _ h refl)
-publish_owner x KeyNoString name q h = absurd (not_none _ _ h refl)
-publish_owner x ModeNoString name q h = absurd (not_none _ _ h refl)
-publish_owner x ModeUnknown name q h = absurd (not_none _ _ h refl)
-publish_owner x (PublishGood m) name q h = ap stream_in h
+publish_owner : (x : StreamId) (a : Result PublishArguments PublishFault) (q : Request) → publish_ask x a ≡ Some q → Some x.0 ≡ Some q.stream.0
+publish_owner x (Ok a) q h = ap stream_in h
+publish_owner x (Err f) q h = absurd (not_none _ _ h refl)
 
-play_owner : (x : StreamId) (a : PlayArguments) (name : Name) (q : Request) → play_ask x a name ≡ some q → some x.0 ≡ some q.stream.0
-play_owner x PlayTooFew name q h = absurd (not_none _ _ h refl)
-play_owner x PlayKeyNoString name q h = absurd (not_none _ _ h refl)
-play_owner x (PlayGood start duration reset) name q h = ap stream_in h
+play_owner : (x : StreamId) (a : Result PlayArguments PlayFault) (q : Request) → play_ask x a ≡ Some q → Some x.0 ≡ Some q.stream.0
+play_owner x (Ok a) q h = ap stream_in h
+play_owner x (Err f) q h = absurd (not_none _ _ h refl)
 
-want_owner : (next : ℕ) (x : StreamId) (v : Want) (name : Name) (q : Request) → want_ask x v name ≡ some q → owner_of_want next x v ≡ some q.stream.0
-want_owner next x Nothing name q h = absurd (not_none _ _ h refl)
-want_owner next x (Refused o) name q h = absurd (not_none _ _ h refl)
-want_owner next x (ConnectWant t e) name q h = absurd (not_none _ _ h refl)
-want_owner next x (CreateStream t) name q h = absurd (not_none _ _ h refl)
-want_owner next x (CloseStream y) name q h = absurd (not_none _ _ h refl)
-want_owner next x (DeleteStream y) name q h = absurd (not_none _ _ h refl)
-want_owner next x (PublishWant t a) name q h = publish_owner x a name q h
-want_owner next x (PlayWant t a) name q h = play_owner x a name q h
-want_owner next x Metadata name q h = absurd (not_none _ _ h refl)
-want_owner next x (PingRequest v) name q h = absurd (not_none _ _ h refl)
-want_owner next x (PingResponse v) name q h = absurd (not_none _ _ h refl)
+want_owner : (next : ℕ) (x : StreamId) (v : Result Wish Refusal) (q : Request) → want_ask x v ≡ Some q → owner_of_want next x v ≡ Some q.stream.0
+want_owner next x (Ok Nothing) q h = absurd (not_none _ _ h refl)
+want_owner next x (Ok (ConnectWish t e app)) q h = absurd (not_none _ _ h refl)
+want_owner next x (Ok (CreateStream t)) q h = absurd (not_none _ _ h refl)
+want_owner next x (Ok (CloseStream y)) q h = absurd (not_none _ _ h refl)
+want_owner next x (Ok (DeleteStream y)) q h = absurd (not_none _ _ h refl)
+want_owner next x (Ok (PublishWish t a)) q h = publish_owner x a q h
+want_owner next x (Ok (PlayWish t a)) q h = play_owner x a q h
+want_owner next x (Ok (Metadata read)) q h = absurd (not_none _ _ h refl)
+want_owner next x (Ok (PingRequest v)) q h = absurd (not_none _ _ h refl)
+want_owner next x (Ok (PingResponse v)) q h = absurd (not_none _ _ h refl)
+want_owner next x (Err r) q h = absurd (not_none _ _ h refl)
 
-doing_owner : (next : ℕ) (g : Doing) (q : Request) → doing_ask g ≡ some q → owner_of next g ≡ some q.stream.0
-doing_owner next (Wants x w) q h = want_owner next x w.want w.name q h
+doing_owner : (next : ℕ) (g : Doing) (q : Request) → doing_ask g ≡ Some q → owner_of next g ≡ Some q.stream.0
+doing_owner next (Wants x w) q h = want_owner next x w q h
 doing_owner next (Shows x e) q h = absurd (not_none _ _ h refl)
 doing_owner next Rests q h = absurd (not_none _ _ h refl)
 doing_owner next (Accepts n) q h = absurd (not_none _ _ h refl)
@@ -151,12 +148,12 @@ doing_owner next (Rejects n b) q h = absurd (not_none _ _ h refl)
 doing_owner next (Finishes x) q h = absurd (not_none _ _ h refl)
 doing_owner next (Sends x) q h = absurd (not_none _ _ h refl)
 
-asks_owner : (s : Session) (older : List (Tagged Act)) (act : Act) (q : Request) → act_ask (some act) ≡ some q → owner s older act ≡ some q.stream.0
+asks_owner : (s : Session) (older : List (Tagged Act)) (act : Act) (q : Request) → act_ask (Some act) ≡ Some q → owner s older act ≡ Some q.stream.0
 asks_owner s older (Plain c) q h = doing_owner _ (doing c) q h
 asks_owner s older (Accept r clock out) q h = absurd (not_none _ _ h refl)
 asks_owner s older (Reject r code description clock out) q h = absurd (not_none _ _ h refl)
 
-mine_look : (s : Session) (t : ℕ) (q : Request) (l : List (Tagged Act)) → act_ask (under t l) ≡ some q → under t (mine s q.stream.0 l) ≡ under t l
+mine_look : (s : Session) (t : ℕ) (q : Request) (l : List (Tagged Act)) → act_ask (under t l) ≡ Some q → under t (mine s q.stream.0 l) ≡ under t l
 unfolding mine
 mine_look s t q [] h = refl
 mine_look s t q (p ∷ older) h =
@@ -168,50 +165,46 @@ mine_look s t q (p ∷ older) h =
     (λ b. under_past t p (mine s q.stream.0 older) e ∙ i ∙ sym (under_past t p older e))
     (λ b. i ∙ sym (under_past t p older e)))
 
-ask_mine : (s : Session) (older : List (Tagged Act)) (r : Ref) (q : Request) → ask_at s older r ≡ some q → ask_at s (mine s q.stream.0 older) r ≡ some q
+ask_mine : (s : Session) (older : List (Tagged Act)) (r : Ref) (q : Request) → ask_at s older r ≡ Some q → ask_at s (mine s q.stream.0 older) r ≡ Some q
 ask_mine s older (Old n) q h = h
 ask_mine s older (By t) q h = ap act_ask (mine_look s t q older h) ∙ h
 
 -- ---- the desk of a call, and the machine's
 -- the owner's number, and what stands there; without an owner, nothing
 abbrev seat : Option ℕ → ℕ
-seat none = 0
-seat (some x) = x
+seat None = 0
+seat (Some x) = x
 
 abbrev stands_at : Session → Option ℕ → Option Stream
-stands_at z none = none
-stands_at z (some x) = stream_of z x
+stands_at z None = None
+stands_at z (Some x) = stream_of z x
 
 abbrev own_desk : Session → Name → Option ℕ → Desk
 own_desk z app o = desk_for app (seat o) (stands_at z o)
 
-meets : (z : Session) (v : Want) (y : StreamId) → Meets (desk_of z (subject_of v y)) (seat (owner_of_want z.next_stream y v)) (stands_at z (owner_of_want z.next_stream y v)) v
+meets : (z : Session) (v : Wish) (y : StreamId) → Meets (desk_of z (subject_of v y)) (seat (owner_of_want z.next_stream y (Ok v))) (stands_at z (owner_of_want z.next_stream y (Ok v))) (Ok v)
 unfolding desk_of
 meets z Nothing y = tt
-meets z (Refused p) y = tt
-meets z (ConnectWant t e) y = tt
+meets z (ConnectWish t e app) y = tt
 meets z (CreateStream t) y = refl
 meets z (CloseStream u) y = refl
 meets z (DeleteStream u) y = refl
-meets z (PublishWant t a) y = tt
-meets z (PlayWant t a) y = tt
-meets z Metadata y = refl
+meets z (PublishWish t a) y = tt
+meets z (PlayWish t a) y = tt
+meets z (Metadata read) y = refl
 meets z (PingRequest v) y = tt
 meets z (PingResponse v) y = tt
 
 module _ (z : Session) (app : Name) (on : connected z ≡ true) (here : z.app ≡ app) where
-  frame_alike : (y : StreamId) (e : Event) → frame_of z y e ≡ frame_seen (own_desk z app (some y.0)) e
+  frame_alike : (y : StreamId) (e : Event) → frame_of z y e ≡ frame_seen (own_desk z app (Some y.0)) e
   unfolding frame_of
-  frame_alike y e = rw (on, here) (at (stream_of z y.0))
-    where
-      at : (o : Option Stream) → shown_found o e app ≡ frame_seen (desk_for app y.0 o) e
-      at none = refl
-      at (some d) = refl
+  frame_alike y e = rw (on, here) refl
 
   plain_alike : (g : Doing) → Connectless g → for_room (number_of (decision_at z g).outcome) ≡ false → bare (decision_at z g) ≡ bare (desk_decision (own_desk z app (owner_of z.next_stream g)) g)
-  unfolding decided decide desk_of
-  plain_alike (Wants y w) n h = want_alike (desk_of z (subject_of w.want y)) app _ _ on here w.want n (meets z w.want y) y w.fits w.name w.metadata h
-  plain_alike (Shows y e) n h = ap (λ (f : Frame). bare (shown_as f)) (frame_alike y e)
+  unfolding decided desk_of
+  plain_alike (Wants y (Ok w)) n h = want_alike (desk_of z (subject_of w y)) app _ _ on here (Ok w) n (meets z w y) y h
+  plain_alike (Wants y (Err r)) n h = refl
+  plain_alike (Shows y e) n h = ap (λ (f : Option Frame). bare (shown_as f)) (frame_alike y e)
   plain_alike Rests n h = refl
   plain_alike (Accepts m) n h = absurd n
   plain_alike (Rejects m b) n h = absurd n
@@ -237,57 +230,57 @@ plain_owner z (Finishes x) n = refl
 plain_owner z (Sends x) n = refl
 
 -- ---- a decision that is not answered 10 found a request
-accept_found : (z : Session) → Good z → (n : RequestId) (clock : ℕ) (out : List ℕ) → (number_of (step z (accept n clock out)).0.outcome ≡ 10 → ⊥) → (r : Request) × (request_of z n.0 ≡ some r)
+accept_found : (z : Session) → Good z → (n : RequestId) (clock : ℕ) (out : List ℕ) → (number_of (step z (accept n clock out)).0.outcome ≡ 10 → ⊥) → (r : Request) × (request_of z n.0 ≡ Some r)
 accept_found z g n clock out h = at (request_of z n.0) refl
   where
-    at : (o : Option Request) → request_of z n.0 ≡ o → (r : Request) × (request_of z n.0 ≡ some r)
-    at none e = absurd (h (ap (λ (p : Response × Session). number_of p.0.outcome) (accept_missing z g.sound n e clock out)))
-    at (some r) e = (r, e)
+    at : (o : Option Request) → request_of z n.0 ≡ o → (r : Request) × (request_of z n.0 ≡ Some r)
+    at None e = absurd (h (ap (λ (p : Response × Session). number_of p.0.outcome) (accept_missing z g.sound n e clock out)))
+    at (Some r) e = (r, e)
 
 reject_found : (z : Session) → Good z → (n : RequestId) (code description : List ℕ) (clock : ℕ) (out : List ℕ) → (number_of (step z (reject n code description clock out)).0.outcome ≡ 10 → ⊥)
-    → (r : Request) × (request_of z n.0 ≡ some r)
+    → (r : Request) × (request_of z n.0 ≡ Some r)
 reject_found z g n code description clock out h = at (request_of z n.0) refl
   where
-    at : (o : Option Request) → request_of z n.0 ≡ o → (r : Request) × (request_of z n.0 ≡ some r)
-    at none e = absurd (h (ap (λ (p : Response × Session). number_of p.0.outcome) (reject_missing z g.sound n e clock out code description)))
-    at (some r) e = (r, e)
+    at : (o : Option Request) → request_of z n.0 ≡ o → (r : Request) × (request_of z n.0 ≡ Some r)
+    at None e = absurd (h (ap (λ (p : Response × Session). number_of p.0.outcome) (reject_missing z g.sound n e clock out code description)))
+    at (Some r) e = (r, e)
 
-waiting_some : (o : Option Request) (q : Request) → waiting_ask o ≡ some q → (r : Request) × (o ≡ some r)
-waiting_some none q e = absurd (not_none _ _ e refl)
-waiting_some (some r) q e = (r, refl)
+waiting_some : (o : Option Request) (q : Request) → waiting_ask o ≡ Some q → (r : Request) × (o ≡ Some r)
+waiting_some None q e = absurd (not_none _ _ e refl)
+waiting_some (Some r) q e = (r, refl)
 
 module _ (s : Session) (g : Good s) (older : List (Tagged Act)) (m : Core s older) where
   -- the request that is found is the one that was meant
-  meant : (r : Ref) (q p : Request) → ask_at s older r ≡ some q → request_of (go s older).0 (resolve (go s older) r).0 ≡ some p → q ≡ unnumbered p
+  meant : (r : Ref) (q p : Request) → ask_at s older r ≡ Some q → request_of (go s older).0 (resolve (go s older) r).0 ≡ Some p → q ≡ unnumbered p
   meant (Old n) q p a f =
       let b = waiting_some (request_of s n) q a in
       let k = m.old n p (request_below s g n b.0 b.1) f in
       same_found _ _ _ a (ap waiting_ask k)
   meant (By t) q p a f = at (number_in (under t (go s older).1)) refl f
     where
-      at : (o : Option ℕ) → number_in (under t (go s older).1) ≡ o → request_of (go s older).0 (or_else (go s older).0.next_request o) ≡ some p → q ≡ unnumbered p
-      at none e h = absurd (not_none _ _ h (request_absent (go s older).0 m.good (go s older).0.next_request (omega arith)))
-      at (some n) e h = same_found _ _ _ a ((m.new t n e).1 p h)
+      at : (o : Option ℕ) → number_in (under t (go s older).1) ≡ o → request_of (go s older).0 (or_else (go s older).0.next_request o) ≡ Some p → q ≡ unnumbered p
+      at None e h = absurd (not_none _ _ h (request_absent (go s older).0 m.good (go s older).0.next_request (omega arith)))
+      at (Some n) e h = same_found _ _ _ a ((m.new t n e).1 p h)
 
 -- ---- what a step is to the session: calm, with the owner that it has over the steps alone
 pub record Turn (s : Session) (older : List (Tagged Act)) (m : Core s older) (act : Act) : Type 0 where
   pub calm : Calm (go s older).0 m.good (doing (call_of (go s older) act))
   pub own : owner_in (go s older).0 (doing (call_of (go s older) act)) ≡ owner s older act
-  pub alike : (x : ℕ) → owner s older act ≡ some x
+  pub alike : (x : ℕ) → owner s older act ≡ Some x
       → bare (decision_at (go s older).0 (doing (call_of (go s older) act))) ≡ bare (own_decision s x (stream_of (go s older).0 x) (mine s x older) act)
-  pub free : owner s older act ≡ none
-      → bare (decision_at (go s older).0 (doing (call_of (go s older) act))) ≡ bare (own_decision s 0 none [] act)
+  pub free : owner s older act ≡ None
+      → bare (decision_at (go s older).0 (doing (call_of (go s older) act))) ≡ bare (own_decision s 0 None [] act)
 
 module _ (s : Session) (g : Good s) (older : List (Tagged Act)) (m : Core s older) where
   -- the session's decision is not refused for room
   roomy : (act : Act) → HasRoom s older act → for_room (number_of (decision_at (go s older).0 (doing (call_of (go s older) act))).outcome) ≡ false
   roomy act h = (step_next (go s older).0 m.good.sound (call_of (go s older) act) h).1
 
-  asked_turn : (r : Ref) (q p : Request) → ask_at s older r ≡ some q → request_of (go s older).0 (resolve (go s older) r).0 ≡ some p → q ≡ unnumbered p
-      → (x : ℕ) → stream_in (ask_at s older r) ≡ some x → (p.stream.0 ≡ x) × (ask_at s (mine s x older) r ≡ some (unnumbered p))
+  asked_turn : (r : Ref) (q p : Request) → ask_at s older r ≡ Some q → request_of (go s older).0 (resolve (go s older) r).0 ≡ Some p → q ≡ unnumbered p
+      → (x : ℕ) → stream_in (ask_at s older r) ≡ Some x → (p.stream.0 ≡ x) × (ask_at s (mine s x older) r ≡ Some (unnumbered p))
   asked_turn r q p a f e x o =
       let k : q.stream.0 ≡ x = same_found _ _ _ (ap stream_in a) o in
-      (ap (λ (u : Request). u.stream.0) (sym e) ∙ k, ap (λ (n : ℕ). ask_at s (mine s n older) r) (sym k) ∙ ask_mine s older r q a ∙ ap some e)
+      (ap (λ (u : Request). u.stream.0) (sym e) ∙ k, ap (λ (n : ℕ). ask_at s (mine s n older) r) (sym k) ∙ ask_mine s older r q a ∙ ap Some e)
 
   pub turn : (act : Act) → NoConnect s older act → HasRoom s older act → Finds s older act → Turn s older m act
   turn (Plain c) n h f =
@@ -304,51 +297,60 @@ module _ (s : Session) (g : Good s) (older : List (Tagged Act)) (m : Core s olde
   turn (Accept r clock out) n h f =
       let z : Session = (go s older).0 in
       let q : Request = f.0.0 in
-      let a : ask_at s older r ≡ some q = f.0.1 in
+      let a : ask_at s older r ≡ Some q = f.0.1 in
       let b = accept_found z m.good (resolve (go s older) r) clock out f.1 in
       let p : Request = b.0 in
       let e : q ≡ unnumbered p = meant s g older m r q p a b.1 in
       let no : q.kind ≡ Connect → ⊥ = rw a at n in
       record {
         calm = λ u k w. no (ap (λ (i : Request). i.kind) (e ∙ ap unnumbered (same_found _ _ _ b.1 k)) ∙ w);
-        own = ap stream_in b.1 ∙ ap (λ (i : Request). some i.stream.0) (sym e) ∙ sym (ap stream_in a);
-        alike = λ x k. let t = asked_turn r q p a b.1 e x k in rw (b.1, t.1, ← t.0) (accept_alike p (found_stream (stream_of z p.stream.0)).found);
+        own = ap stream_in b.1 ∙ ap (λ (i : Request). Some i.stream.0) (sym e) ∙ sym (ap stream_in a);
+        alike = λ x k. let t = asked_turn r q p a b.1 e x k in rw (b.1, t.1, ← t.0) (accept_alike p (is_some (stream_of z p.stream.0)));
         free = λ k. absurd (not_none _ _ (ap stream_in a) k);
       }
   turn (Reject r code description clock out) n h f =
       let z : Session = (go s older).0 in
       let q : Request = f.0.0 in
-      let a : ask_at s older r ≡ some q = f.0.1 in
+      let a : ask_at s older r ≡ Some q = f.0.1 in
       let b = reject_found z m.good (resolve (go s older) r) code description clock out f.1 in
       let p : Request = b.0 in
       let e : q ≡ unnumbered p = meant s g older m r q p a b.1 in
       record {
         calm = tt;
-        own = ap stream_in b.1 ∙ ap (λ (i : Request). some i.stream.0) (sym e) ∙ sym (ap stream_in a);
+        own = ap stream_in b.1 ∙ ap (λ (i : Request). Some i.stream.0) (sym e) ∙ sym (ap stream_in a);
         alike = λ x k. let t = asked_turn r q p a b.1 e x k in rw (b.1, t.1) (reject_alike p (short code description));
         free = λ k. absurd (not_none _ _ (ap stream_in a) k);
       }
 
 -- ---- the number in an answer is the decision's
-fitted_number : (d : Decision) (b : Bool) (c : ℕ) (out : List ℕ) (n : ℕ) → request_in (fitted d b c out).event ≡ some n → request_in d.event ≡ some n
-fitted_number d true c out n e = e
-fitted_number d false c out n e = absurd (not_none _ _ e refl)
+fitted_number : (d : Decision) (c : Option ℕ) (out : List ℕ) (n : ℕ) → request_in (fitted d c out).event ≡ Some n → request_in d.event ≡ Some n
+fitted_number d (Some c) out n e = e
+fitted_number d None out n e = absurd (not_none _ _ e refl)
 
-written_number : (k : Constants) (d : Decision) (code description : List ℕ) (clock : ℕ) (out : List ℕ) (n : ℕ) → request_in (written k d code description clock out).event ≡ some n → request_in d.event ≡ some n
+written_number : (k : Constants) (d : Decision) (code description : List ℕ) (clock : ℕ) (out : List ℕ) (n : ℕ) → request_in (written k d code description clock out).event ≡ Some n → request_in d.event ≡ Some n
 written_number k d code description clock out n e =
     let r = sent (records_of k d code description clock) out in
-    fitted_number d r.0.fits r.0.count r.1 n e
+    fitted_number d r.0 r.1 n e
 
-answer_number : (k : Constants) (d : Decision) (c : Call) (n : ℕ) → request_in (answer_by k d c).event ≡ some n → request_in d.event ≡ some n
+-- a send's answer has none
+sent_none : (a : Result ℕ Refusal) (out : List ℕ) → request_in (sent_as a out).event ≡ None
+sent_none (Ok n) out = refl
+sent_none (Err r) out = refl
+
+pinged_none : (a : Result PingSent Refusal) (out : List ℕ) → request_in (pinged_as a out).event ≡ None
+pinged_none (Ok p) out = refl
+pinged_none (Err r) out = refl
+
+answer_number : (k : Constants) (d : Decision) (c : Call) (n : ℕ) → request_in (answer_by k d c).event ≡ Some n → request_in d.event ≡ Some n
 answer_number k d (message type x timestamp clock body out) n e = written_number k d [] [] clock out n e
 answer_number k d (media kind x timestamp) n e = e
 answer_number k d (accept m clock out) n e = written_number k d [] [] clock out n e
 answer_number k d (reject m code description clock out) n e = written_number k d code description clock out n e
 answer_number k d (finish x clock out) n e = written_number k d [] [] clock out n e
-answer_number k d (send_metadata x m clock out) n e = absurd (not_none _ _ e refl)
-answer_number k d (send_audio x timestamp droppable body out) n e = absurd (not_none _ _ e refl)
-answer_number k d (send_video x timestamp droppable body out) n e = absurd (not_none _ _ e refl)
-answer_number k d (send_ping clock out) n e = absurd (not_none _ _ e refl)
+answer_number k d (send_metadata x m clock out) n e = absurd (not_none _ _ e (sent_none _ _))
+answer_number k d (send_audio x timestamp droppable body out) n e = absurd (not_none _ _ e (sent_none _ _))
+answer_number k d (send_video x timestamp droppable body out) n e = absurd (not_none _ _ e (sent_none _ _))
+answer_number k d (send_ping clock out) n e = absurd (not_none _ _ e (pinged_none _ _))
 
 -- ---- of acts and their calls
 births_call : (l : Log) (act : Act) → made_by (doing (call_of l act)) ≡ creates act
@@ -356,7 +358,7 @@ births_call l (Plain c) = refl
 births_call l (Accept r clock out) = refl
 births_call l (Reject r code description clock out) = refl
 
-ask_call : (l : Log) (act : Act) → act_ask (some act) ≡ doing_ask (doing (call_of l act))
+ask_call : (l : Log) (act : Act) → act_ask (Some act) ≡ doing_ask (doing (call_of l act))
 ask_call l (Plain c) = refl
 ask_call l (Accept r clock out) = refl
 ask_call l (Reject r code description clock out) = refl
@@ -413,7 +415,7 @@ module _ (s : Session) (g : Good s) (p : Tagged Act) (older : List (Tagged Act))
       ap plain answers ∙ answers_alike (constants_of s) decision (own_decision s x o own p.held) called q ∙ ap plain (bare_call_lem (go s older) (constants_of s) (own_decision s x o own p.held) p.held)
 
   module _ (n : Sim s older) where
-    sim_own : (x : ℕ) → owner s older p.held ≡ some x → Sim s (p ∷ older)
+    sim_own : (x : ℕ) → owner s older p.held ≡ Some x → Sim s (p ∷ older)
     unfolding go machine machine_answers
     sim_own x o =
         let q = u.alike x o in
@@ -432,7 +434,7 @@ module _ (s : Session) (g : Good s) (p : Tagged Act) (older : List (Tagged Act))
               (λ i. replies_other s p older x y o i ∙ n.told y ∙ sym (ap (machine_answers s y) (mine_other s p older x y o i)));
         }
 
-    sim_free : owner s older p.held ≡ none → Sim s (p ∷ older)
+    sim_free : owner s older p.held ≡ None → Sim s (p ∷ older)
     unfolding go
     sim_free o =
         record {
@@ -453,5 +455,5 @@ sim s g on [] n r f =
 sim s g on (p ∷ older) n r f = at (sim s g on older n.1 r.1 f.1) (owner s older p.held) refl
   where
     at : Sim s older → (o : Option ℕ) → owner s older p.held ≡ o → Sim s (p ∷ older)
-    at m none o = sim_free s g p older m.core r.0 (turn s g older m.core p.held n.0 r.0 f.0) m o
-    at m (some x) o = sim_own s g p older m.core r.0 (turn s g older m.core p.held n.0 r.0 f.0) m x o
+    at m None o = sim_free s g p older m.core r.0 (turn s g older m.core p.held n.0 r.0 f.0) m o
+    at m (Some x) o = sim_own s g p older m.core r.0 (turn s g older m.core p.held n.0 r.0 f.0) m x o

@@ -1,33 +1,31 @@
 -- A step of a sound session is its decision, written: made where the records fit, and refused for room with nothing changed where not.
 use mathlib.Core.Path.{◌≡◌, refl, sym, ap, ◌∙◌}
-use Prim.Native.Nat.{ℕ, ◌≤◌}
-use native.Mathlib.Omega.{arith}
+use Prim.Native.Nat.{ℕ}
 use mathlib.Core.Bool.{Bool, true, false, true≢false}
 use mathlib.Core.List.{List, []}
-use mathlib.Core.Option.{Option, some, none}
 use lib.Dec.{eqb, leb}
 use lib.ListN.{length}
-use borrow.Author.Tests.{le-ltb}
+use Rattle.std.specs.Prelude.{Option, Some, None, Result, Ok, Err}
+use Rattle.std.specs.Option.{ok_or}
 use Rattle.numbers.specs.Choose.{pick}
-use Rattle.numbers.proofs.FieldsLaws.{front_nil}
 use Rattle.text.specs.declared.ids.StreamId.{StreamId}
 use Rattle.text.specs.declared.names.Name.{Name}
 use Rattle.record.specs.Clock.{time_of}
 use Rattle.record.specs.Records.{media as media_record, ping_request}
 use Rattle.metadata.specs.Writing.{metadata_record}
 use Rattle.metadata.specs.declared.metadata.StreamMetadata.{StreamMetadata}
-use Rattle.answers.specs.Sending.{all_sent, sent}
+use Rattle.answers.specs.Sending.{sent}
 use Rattle.wishes.specs.Commands.{command_wish}
 use Rattle.wishes.specs.Control.{control_wish}
 use Rattle.wishes.specs.DataFrame.{data_wish}
-use Rattle.wishes.specs.Outcome.{number_of}
-use Rattle.wishes.specs.declared.outcome.Outcome.{Outcome}
-use Rattle.wishes.specs.declared.outcome.Outcome.TheVariants.{Done, NoRoom}
-use Rattle.wishes.specs.declared.wish.Want.{Want}
-use Rattle.wishes.specs.declared.wish.Want.TheVariants.{Nothing, Refused, Connect, CreateStream, CloseStream, DeleteStream, Publish, Play, Metadata, PingRequest, PingResponse}
+use Rattle.wishes.specs.Outcome.{Outcome, number_of}
+use Rattle.wishes.specs.declared.outcome.Refusal.{Refusal}
+use Rattle.wishes.specs.declared.outcome.Refusal.TheVariants.{NoRoom}
+use Rattle.wishes.specs.declared.wish.Wish.{Wish}
+use Rattle.wishes.specs.declared.wish.Wish.TheVariants.{Nothing, Connect, CreateStream, CloseStream, DeleteStream, Publish, Play, Metadata, PingRequest, PingResponse}
 use Rattle.session.specs.Changes.{applied}
-use Rattle.session.specs.Decisions.{refusing}
-use Rattle.session.specs.State.{app_fits, session_sound}
+use Rattle.session.specs.Decisions.{nothing, refusing}
+use Rattle.session.specs.State.{session_sound}
 use Rattle.session.specs.declared.decision.Decision.{Decision}
 use Rattle.session.specs.declared.decision.Event.{Event}
 use Rattle.session.specs.declared.decision.Event.TheVariants.{AudioDataReceived, VideoDataReceived}
@@ -36,18 +34,17 @@ use Rattle.streams.specs.Streams.{frame_of}
 use Rattle.streams.specs.declared.streams.Frame.{Frame}
 use Rattle.steps.specs.Deciding.{decided}
 use Rattle.sending.specs.Answers.{sending}
-use Rattle.sending.specs.Sends.{guarded_send, media_sent, metadata_sent, pinged, sends_ping}
-use Rattle.sending.specs.declared.answer.PingAnswer.{PingAnswer}
-use Rattle.sending.specs.declared.answer.SendAnswer.{SendAnswer}
-use Rattle.replies.specs.Answers.{answer_of, answered, idle, refusal}
+use Rattle.sending.specs.Sends.{encoder_fits, guarded_send, media_sent, metadata_sent, ping_of, pinged, sends_ping}
+use Rattle.replies.specs.Answers.{answered, closed, idle}
 use Rattle.replies.specs.Finishing.{finishing}
 use Rattle.replies.specs.Replies.{reply_records, short}
+use Rattle.replies.proofs.RepliesLaws.{nothing_sent}
 use Rattle.messages.specs.Messages.{by_type, frame_answer, guarded, handle_media, media_event, wished}
 use Rattle.messages.specs.declared.messages.MediaKind.{MediaKind}
 use Rattle.messages.specs.declared.messages.MediaKind.TheVariants.{Audio, Video}
-use Rattle.story.specs.Steps.{Call, Response, accept, answering, finish, media, message, plainly, reject, send_audio, send_metadata, send_ping, send_video, step}
+use Rattle.story.specs.Steps.{Call, Response, accept, answering, finish, media, message, pinged_as, plainly, reject, send_audio, send_metadata, send_ping, send_video, sent_as, shown, step}
 use Rattle.story.specs.Doings.{Doing, Wants, Shows, Rests, Accepts, Rejects, Finishes, Sends, doing, message_doing}
-use Rattle.story.specs.Stories.{frame_in}
+use Rattle.story.specs.Stories.{Raised, frame_in, nothing_raised}
 use Rattle.story.specs.Orders.{for_room, request_in}
 use Rattle.story.proofs.DecisionLaws.{Did, Not15, ReadableIn, StillWant, decision_at, did, shown_as, still}
 use Rattle.story.proofs.ReadingLaws.{command_readable, control_readable, data_readable}
@@ -68,14 +65,12 @@ constants_of s = record { start = s.start; version = s.version; encoding = s.enc
 abbrev pub records_of : Constants → Decision → List ℕ → List ℕ → ℕ → List ℕ
 records_of k d code description clock = reply_records d.reply d.name k.version k.encoding code description (time_of k.start clock)
 
-abbrev pub fitted : Decision → Bool → ℕ → List ℕ → Response
-fitted d b n out = pick b (heard d n 0 out) (plainly NoRoom 0 0 out)
+abbrev pub fitted : Decision → Option ℕ → List ℕ → Response
+fitted d (Some n) out = heard d n 0 out
+fitted d None out = plainly (Err NoRoom) 0 0 out
 
 abbrev pub written : Constants → Decision → List ℕ → List ℕ → ℕ → List ℕ → Response
-written k d code description clock out = let r = sent (records_of k d code description clock) out in fitted d r.0.fits r.0.count r.1
-
-abbrev send_answer : SendAnswer × List ℕ → Response
-send_answer a = plainly a.0.outcome a.0.count 0 a.1
+written k d code description clock out = let r = sent (records_of k d code description clock) out in fitted d r.0 r.1
 
 -- the answer to a call: a function of the call, of the decision, and of the constants
 abbrev pub answer_by : Constants → Decision → Call → Response
@@ -84,14 +79,18 @@ answer_by k d (media kind x timestamp) = heard d 0 0 []
 answer_by k d (accept n clock out) = written k d [] [] clock out
 answer_by k d (reject n code description clock out) = written k d code description clock out
 answer_by k d (finish x clock out) = written k d [] [] clock out
-answer_by k d (send_metadata x m clock out) = send_answer (metadata_sent x m (time_of k.start clock) out)
-answer_by k d (send_audio x timestamp droppable body out) = send_answer (media_sent 8 x timestamp droppable body out)
-answer_by k d (send_video x timestamp droppable body out) = send_answer (media_sent 9 x timestamp droppable body out)
-answer_by k d (send_ping clock out) = let a = pinged (time_of k.start clock) out in plainly a.0.outcome a.0.count a.0.timestamp a.1
+answer_by k d (send_metadata x m clock out) = let a = metadata_sent x m (time_of k.start clock) out in sent_as a.0 a.1
+answer_by k d (send_audio x timestamp droppable body out) = let a = media_sent 8 x timestamp droppable body out in sent_as a.0 a.1
+answer_by k d (send_video x timestamp droppable body out) = let a = media_sent 9 x timestamp droppable body out in sent_as a.0 a.1
+answer_by k d (send_ping clock out) = let a = pinged (time_of k.start clock) out in pinged_as a.0 a.1
 
 -- the next session
+abbrev if_fitted : Session → Decision → Option ℕ → Session
+if_fitted s d (Some n) = applied s d.change
+if_fitted s d None = s
+
 abbrev keeps : Session → Decision → List ℕ → List ℕ → ℕ → List ℕ → Session
-keeps s d code description clock out = pick (sent (records_of (constants_of s) d code description clock) out).0.fits (applied s d.change) s
+keeps s d code description clock out = if_fitted s d (sent (records_of (constants_of s) d code description clock) out).0
 
 abbrev pub next_by : Session → Decision → Call → Session
 next_by s d (message type x timestamp clock body out) = keeps s d [] [] clock out
@@ -105,21 +104,30 @@ next_by s d (send_video x timestamp droppable body out) = applied s d.change
 next_by s d (send_ping clock out) = applied s d.change
 
 -- ---- no records always fit
-pub sent_nothing : (out : List ℕ) → sent [] out ≡ (all_sent 0, out)
-unfolding sent
-sent_nothing out = let z : 0 ≤ length out = omega arith in simp (le-ltb (length out) 0 z, front_nil)
+pub sent_nothing : (out : List ℕ) → sent [] out ≡ (Some 0, out)
+sent_nothing out = sym (nothing_sent out)
 
 module _ (s : Session) where
   abbrev Is : Decision → List ℕ → List ℕ → ℕ → List ℕ → Response × Session → Type 0
   Is d code description clock out p = p ≡ (written (constants_of s) d code description clock out, keeps s d code description clock out)
 
-  by_room : (d : Decision) (b : Bool) (n : ℕ) (o : List ℕ) → answering (pick b (answer_of s d n) (refusal NoRoom s), o) ≡ (fitted d b n o, pick b (applied s d.change) s)
-  by_room d true n o = refl
-  by_room d false n o = refl
+  by_room : (d : Decision) (n : Option ℕ) (o : List ℕ) → answering (closed s d n, o) ≡ (fitted d n o, if_fitted s d n)
+  by_room d (Some n) o = refl
+  by_room d None o = refl
 
   finishes : (d : Decision) (code description : List ℕ) (clock : ℕ) (out : List ℕ) → Is d code description clock out (answering (finishing s d code description clock out))
   unfolding finishing answered
-  finishes d code description clock out = let r = sent (records_of (constants_of s) d code description clock) out in by_room d r.0.fits r.0.count r.1
+  finishes d code description clock out = let r = sent (records_of (constants_of s) d code description clock) out in by_room d r.0 r.1
+
+  frames : (f : Option Frame) (clock : ℕ) (out : List ℕ) → Is (shown_as f) [] [] clock out (answering (frame_answer s f, out))
+  unfolding applied
+  frames None clock out = rw (sent_nothing out)
+  frames (Some f) clock out = rw (sent_nothing out)
+
+  alone : (f : Option Frame) → ◌≡◌ {A = Response × Session} (shown (Ok f), s) (heard (shown_as f) 0 0 [], applied s (shown_as f).change)
+  unfolding applied
+  alone None = refl
+  alone (Some f) = refl
 
   types : (x : StreamId) (timestamp clock : ℕ) (body out : List ℕ) (b4 b8 b9 b18 b20 : Bool)
       → Is
@@ -134,8 +142,8 @@ module _ (s : Session) where
       (pick b20 (wished s x clock out (command_wish body)) (idle s 0, out)))))))
   unfolding applied
   types x timestamp clock body out true b8 b9 b18 b20 = finishes (decided s x (control_wish body)) [] [] clock out
-  types x timestamp clock body out false true b9 b18 b20 = rw (sent_nothing out)
-  types x timestamp clock body out false false true b18 b20 = rw (sent_nothing out)
+  types x timestamp clock body out false true b9 b18 b20 = frames (frame_of s x (AudioDataReceived timestamp)) clock out
+  types x timestamp clock body out false false true b18 b20 = frames (frame_of s x (VideoDataReceived timestamp)) clock out
   types x timestamp clock body out false false false true b20 = finishes (decided s x (data_wish body)) [] [] clock out
   types x timestamp clock body out false false false false true = finishes (decided s x (command_wish body)) [] [] clock out
   types x timestamp clock body out false false false false false = rw (sent_nothing out)
@@ -143,7 +151,7 @@ module _ (s : Session) where
   pub step_is : session_sound s ≡ true → (c : Call) → step s c ≡ (answer_by (constants_of s) (decision_at s (doing c)) c, next_by s (decision_at s (doing c)) c)
   unfolding step guarded guarded_send sends_ping handle_media by_type message_doing applied
   step_is q (message type x timestamp clock body out) = rw q (types x timestamp clock body out (eqb type 4) (eqb type 8) (eqb type 9) (eqb type 18) (eqb type 20))
-  step_is q (media kind x timestamp) = rw q
+  step_is q (media kind x timestamp) = rw q (alone (frame_of s x (media_event kind timestamp)))
   step_is q (accept n clock out) = rw q (finishes (decision_at s (Accepts n)) [] [] clock out)
   step_is q (reject n code description clock out) = rw q (finishes (decision_at s (Rejects n (short code description))) code description clock out)
   step_is q (finish x clock out) = rw q (finishes (decision_at s (Finishes x)) [] [] clock out)
@@ -159,16 +167,16 @@ module _ (s : Session) where
   abbrev Made : Decision → Response → Session → Type 0
   Made d r t = for_room (number_of r.outcome) ≡ false → (t ≡ applied s d.change) × (for_room (number_of d.outcome) ≡ false)
 
-  fits_made : (d : Decision) (b : Bool) (n : ℕ) (o : List ℕ) → Made d (fitted d b n o) (pick b (applied s d.change) s)
-  fits_made d true n o h = (refl, h)
-  fits_made d false n o h = absurd (true≢false h)
+  fits_made : (d : Decision) (n : Option ℕ) (o : List ℕ) → Made d (fitted d n o) (if_fitted s d n)
+  fits_made d (Some n) o h = (refl, h)
+  fits_made d None o h = absurd (true≢false h)
 
   written_made : (d : Decision) (code description : List ℕ) (clock : ℕ) (out : List ℕ) → Made d (written (constants_of s) d code description clock out) (keeps s d code description clock out)
-  written_made d code description clock out = let r = sent (records_of (constants_of s) d code description clock) out in fits_made d r.0.fits r.0.count r.1
+  written_made d code description clock out = let r = sent (records_of (constants_of s) d code description clock) out in fits_made d r.0 r.1
 
   call_made : (c : Call) → Made (decision_at s (doing c)) (answer_by (constants_of s) (decision_at s (doing c)) c) (next_by s (decision_at s (doing c)) c)
   call_made (message type x timestamp clock body out) = written_made (decision_at s (message_doing type x timestamp body)) [] [] clock out
-  call_made (media kind x timestamp) = λ h. (refl, refl)
+  call_made (media kind x timestamp) = λ h. (refl, h)
   call_made (accept n clock out) = written_made (decision_at s (Accepts n)) [] [] clock out
   call_made (reject n code description clock out) = written_made (decision_at s (Rejects n (short code description))) code description clock out
   call_made (finish x clock out) = written_made (decision_at s (Finishes x)) [] [] clock out
@@ -182,7 +190,7 @@ module _ (s : Session) where
 
 -- ---- what a call wants can be read
 module _ (s : Session) where
-  kind_none : (kind : MediaKind) (t : ℕ) → request_in (media_event kind t) ≡ none
+  kind_none : (kind : MediaKind) (t : ℕ) → request_in (Some (media_event kind t)) ≡ None
   kind_none Audio t = refl
   kind_none Video t = refl
 
@@ -216,21 +224,21 @@ pub data Took (s : Session) (g : Doing) : Response → Session → Type 0 where
 
 module _ (s : Session) where
   -- 12 changes nothing, whatever was wanted
-  no_room_want : (v : Want) → StillWant s v NoRoom
-  no_room_want Nothing = tt
-  no_room_want (Refused o) = tt
-  no_room_want (Connect t e) = tt
-  no_room_want (CreateStream t) = (refl, refl)
-  no_room_want (CloseStream y) = λ d. absurd (true≢false (sym d))
-  no_room_want (DeleteStream y) = λ d. absurd (true≢false (sym d))
-  no_room_want (Publish t a) = tt
-  no_room_want (Play t a) = tt
-  no_room_want Metadata = tt
-  no_room_want (PingRequest v) = tt
-  no_room_want (PingResponse v) = tt
+  no_room_want : (v : Result Wish Refusal) → StillWant s v (Err NoRoom)
+  no_room_want (Ok Nothing) = tt
+  no_room_want (Err o) = tt
+  no_room_want (Ok (Connect t e app)) = tt
+  no_room_want (Ok (CreateStream t)) = (refl, refl)
+  no_room_want (Ok (CloseStream y)) = λ d. absurd (true≢false (sym d))
+  no_room_want (Ok (DeleteStream y)) = λ d. absurd (true≢false (sym d))
+  no_room_want (Ok (Publish t a)) = tt
+  no_room_want (Ok (Play t a)) = tt
+  no_room_want (Ok (Metadata read)) = tt
+  no_room_want (Ok (PingRequest v)) = tt
+  no_room_want (Ok (PingResponse v)) = tt
 
   no_room : (g : Doing) → Did s g (refusing NoRoom)
-  no_room (Wants y w) = still (Wants y w) _ refl refl refl (no_room_want w.want)
+  no_room (Wants y w) = still (Wants y w) _ refl refl refl (no_room_want w)
   no_room (Shows y e) = still (Shows y e) _ refl refl refl tt
   no_room Rests = still Rests _ refl refl refl tt
   no_room (Accepts n) = still (Accepts n) _ refl refl refl (refl, refl)
@@ -238,46 +246,51 @@ module _ (s : Session) where
   no_room (Finishes x) = still (Finishes x) _ refl refl refl refl
   no_room (Sends x) = still (Sends x) _ refl refl refl tt
 
-  fits_took : (g : Doing) (d : Decision) → Did s g d → (b : Bool) (n : ℕ) (o : List ℕ) → Took s g (fitted d b n o) (pick b (applied s d.change) s)
+  fits_took : (g : Doing) (d : Decision) → Did s g d → (n : Option ℕ) (o : List ℕ) → Took s g (fitted d n o) (if_fitted s d n)
   unfolding applied
-  fits_took g d k true n o = took d n 0 o k
-  fits_took g d k false n o = took (refusing NoRoom) 0 0 o (no_room g)
+  fits_took g d k (Some n) o = took d n 0 o k
+  fits_took g d k None o = took (refusing NoRoom) 0 0 o (no_room g)
 
   written_took : (g : Doing) (d : Decision) → Did s g d → (code description : List ℕ) (clock : ℕ) (out : List ℕ)
       → Took s g (written (constants_of s) d code description clock out) (keeps s d code description clock out)
-  written_took g d k code description clock out = let r = sent (records_of (constants_of s) d code description clock) out in fits_took g d k r.0.fits r.0.count r.1
+  written_took g d k code description clock out = let r = sent (records_of (constants_of s) d code description clock) out in fits_took g d k r.0 r.1
 
   -- sends
-  sends : (x : Option ℕ) (o : Outcome) (n t : ℕ) (out : List ℕ) → Not15 o → Took s (Sends x) (plainly o n t out) s
+  send_done : (x : Option ℕ) (n t : ℕ) (out : List ℕ) → Took s (Sends x) (plainly (Ok tt) n t out) s
   unfolding applied
-  sends x o n t out k = took (refusing o) n t out (still (Sends x) _ refl k refl tt)
+  send_done x n t out = took nothing n t out (still (Sends x) _ refl refl refl tt)
 
-  abbrev Fine : SendAnswer × List ℕ → Type 0
-  Fine a = Not15 a.0.outcome
+  send_refused : (x : Option ℕ) (r : Refusal) (out : List ℕ) → Not15 (Err r) → Took s (Sends x) (plainly (Err r) 0 0 out) s
+  unfolding applied
+  send_refused x r out k = took (refusing r) 0 0 out (still (Sends x) _ refl k refl tt)
 
-  either : (b : Bool) (p q : SendAnswer × List ℕ) → Fine p → Fine q → Fine (pick b p q)
-  either true p q f g = f
-  either false p q f g = g
+  abbrev Sent : Option ℕ → Result ℕ Refusal × List ℕ → Type 0
+  Sent x a = Took s (Sends x) (sent_as a.0 a.1) s
 
-  sending_fine : (records out : List ℕ) → Fine (sending records out)
+  either : (x : Option ℕ) (b : Bool) (p q : Result ℕ Refusal × List ℕ) → Sent x p → Sent x q → Sent x (pick b p q)
+  either x true p q f g = f
+  either x false p q f g = g
+
+  records_sent : (x : Option ℕ) (records out : List ℕ) → Sent x (sending records out)
   unfolding sending
-  sending_fine records out = at (sent records out).0.fits
+  records_sent x records out = at (sent records out).0
     where
-      at : (b : Bool) → Fine (pick {X = SendAnswer} b (record { outcome = Done; count = (sent records out).0.count }) (record { outcome = NoRoom; count = 0 }), (sent records out).1)
-      at true = refl
-      at false = refl
+      at : (n : Option ℕ) → Sent x (ok_or n NoRoom, (sent records out).1)
+      at (Some n) = send_done x n 0 _
+      at None = send_refused x NoRoom _ refl
 
-  metadata_fine : (x : StreamId) (m : StreamMetadata) (time : ℕ) (out : List ℕ) → Fine (metadata_sent x m time out)
+  metadata_took : (x : StreamId) (m : StreamMetadata) (time : ℕ) (out : List ℕ) → Sent (Some x.0) (metadata_sent x m time out)
   unfolding metadata_sent
-  metadata_fine x m time out = either (app_fits m.has_encoder m.encoder.len) _ _ (sending_fine (metadata_record m time x.0) out) refl
+  metadata_took x m time out = either _ (encoder_fits m.encoder) _ _ (records_sent _ (metadata_record m time x.0) out) (send_refused _ _ out refl)
 
-  media_fine : (type : ℕ) (x : StreamId) (timestamp : ℕ) (droppable : Bool) (body out : List ℕ) → Fine (media_sent type x timestamp droppable body out)
+  media_took : (type : ℕ) (x : StreamId) (timestamp : ℕ) (droppable : Bool) (body out : List ℕ) → Sent (Some x.0) (media_sent type x timestamp droppable body out)
   unfolding media_sent
-  media_fine type x timestamp droppable body out = either (leb (length body) 16777215) _ _ (sending_fine (media_record type timestamp x.0 droppable body) out) refl
+  media_took type x timestamp droppable body out =
+      either _ (leb (length body) 16777215) _ _ (records_sent _ (media_record type timestamp x.0 droppable body) out) (send_refused _ _ out refl)
 
-  ping_fine : (t : ℕ) (b : Bool) (n : ℕ) → Not15 (pick {X = PingAnswer} b (record { outcome = Done; count = n; timestamp = t }) (record { outcome = NoRoom; count = 0; timestamp = 0 })).outcome
-  ping_fine t true n = refl
-  ping_fine t false n = refl
+  ping_took : (t : ℕ) (n : Option ℕ) (out : List ℕ) → Took s (Sends None) (pinged_as (ping_of t n) out) s
+  ping_took t (Some n) out = send_done None n t out
+  ping_took t None out = send_refused None NoRoom out refl
 
   call_took : (c : Call) → Took s (doing c) (answer_by (constants_of s) (decision_at s (doing c)) c) (next_by s (decision_at s (doing c)) c)
   unfolding applied
@@ -286,31 +299,37 @@ module _ (s : Session) where
   call_took (accept n clock out) = written_took (Accepts n) _ (does s (accept n clock out)) [] [] clock out
   call_took (reject n code description clock out) = written_took (Rejects n (short code description)) _ (does s (reject n code description clock out)) code description clock out
   call_took (finish x clock out) = written_took (Finishes x) _ (does s (finish x clock out)) [] [] clock out
-  call_took (send_metadata x m clock out) = sends (some x.0) _ _ 0 _ (metadata_fine x m (time_of s.start clock) out)
-  call_took (send_audio x timestamp droppable body out) = sends (some x.0) _ _ 0 _ (media_fine 8 x timestamp droppable body out)
-  call_took (send_video x timestamp droppable body out) = sends (some x.0) _ _ 0 _ (media_fine 9 x timestamp droppable body out)
-  call_took (send_ping clock out) = let t = time_of s.start clock in let r = (sent (ping_request t) out).0 in sends none _ _ _ _ (ping_fine t r.fits r.count)
+  call_took (send_metadata x m clock out) = metadata_took x m (time_of s.start clock) out
+  call_took (send_audio x timestamp droppable body out) = media_took 8 x timestamp droppable body out
+  call_took (send_video x timestamp droppable body out) = media_took 9 x timestamp droppable body out
+  call_took (send_ping clock out) = let t = time_of s.start clock in let r = sent (ping_request t) out in ping_took t r.0 r.1
 
   pub step_took : session_sound s ≡ true → (c : Call) → Took s (doing c) (step s c).0 (step s c).1
   step_took q c = rw (step_is s q c) (call_took c)
 
 -- ---- audio and video: what is shown is the frame, and the answer is done
-abbrev Brings : Call → Constants → Frame → Type 0
-Brings c k f = (frame_in (answer_by k (shown_as f) c) ≡ f) × ((answer_by k (shown_as f) c).outcome ≡ Done)
+abbrev pub raised : Option Frame → Raised
+raised None = nothing_raised
+raised (Some f) = record { event = Some f.event; app = f.app; key = f.key }
 
-brings : (c : Call) (x : StreamId) (e : Event) → doing c ≡ Shows x e → (k : Constants) (f : Frame) → Brings c k f
-brings (message type y timestamp clock body out) x e q k f = rw (sent_nothing out) (refl, refl)
-brings (media kind y timestamp) x e q k f = (refl, refl)
-brings (accept n clock out) x e q k f = let z : ◌≡◌ {A = ℕ} 0 1 = cc in absurd (omega arith)
-brings (reject n code description clock out) x e q k f = let z : ◌≡◌ {A = ℕ} 0 1 = cc in absurd (omega arith)
-brings (finish y clock out) x e q k f = let z : ◌≡◌ {A = ℕ} 0 1 = cc in absurd (omega arith)
-brings (send_metadata y m clock out) x e q k f = let z : ◌≡◌ {A = ℕ} 0 1 = cc in absurd (omega arith)
-brings (send_audio y timestamp droppable body out) x e q k f = let z : ◌≡◌ {A = ℕ} 0 1 = cc in absurd (omega arith)
-brings (send_video y timestamp droppable body out) x e q k f = let z : ◌≡◌ {A = ℕ} 0 1 = cc in absurd (omega arith)
-brings (send_ping clock out) x e q k f = let z : ◌≡◌ {A = ℕ} 0 1 = cc in absurd (omega arith)
+abbrev Brings : Call → Constants → Option Frame → Type 0
+Brings c k f = (frame_in (answer_by k (shown_as f) c) ≡ raised f) × ((answer_by k (shown_as f) c).outcome ≡ Ok tt)
+
+brings : (c : Call) (x : StreamId) (e : Event) → doing c ≡ Shows x e → (k : Constants) (f : Option Frame) → Brings c k f
+brings (message type y timestamp clock body out) x e q k None = rw (sent_nothing out) (refl, refl)
+brings (message type y timestamp clock body out) x e q k (Some f) = rw (sent_nothing out) (refl, refl)
+brings (media kind y timestamp) x e q k None = (refl, refl)
+brings (media kind y timestamp) x e q k (Some f) = (refl, refl)
+brings (accept n clock out) x e q k f = absurd cc
+brings (reject n code description clock out) x e q k f = absurd cc
+brings (finish y clock out) x e q k f = absurd cc
+brings (send_metadata y m clock out) x e q k f = absurd cc
+brings (send_audio y timestamp droppable body out) x e q k f = absurd cc
+brings (send_video y timestamp droppable body out) x e q k f = absurd cc
+brings (send_ping clock out) x e q k f = absurd cc
 
 pub media_answer_lem : (s : Session) → session_sound s ≡ true → (c : Call) (x : StreamId) (e : Event) → doing c ≡ Shows x e
-    → (frame_in (step s c).0 ≡ frame_of s x e) × ((step s c).0.outcome ≡ Done)
+    → (frame_in (step s c).0 ≡ raised (frame_of s x e)) × ((step s c).0.outcome ≡ Ok tt)
 media_answer_lem s g c x e q =
     let b = brings c x e q (constants_of s) (frame_of s x e) in
     let a : (step s c).0 ≡ answer_by (constants_of s) (shown_as (frame_of s x e)) c = step_answer s g c ∙ ap (λ (d : Doing). answer_by (constants_of s) (decision_at s d) c) q in

@@ -1,12 +1,12 @@
 -- What a call is about, read from the call alone: a message as the session reads it.
-use Rattle.std.specs.Prelude.{ℕ, Bool, List, eqb}
-use Rattle.std.proofs.Math.Option.{Option, some, none}
+use Rattle.std.specs.Prelude.{ℕ, Bool, List, Option, Some, None, Result, eqb}
 use Rattle.numbers.specs.Choose.{pick}
 use Rattle.text.specs.declared.ids.RequestId.{RequestId}
 use Rattle.text.specs.declared.ids.StreamId.{StreamId}
 use Rattle.wishes.specs.Commands.{command_wish}
 use Rattle.wishes.specs.Control.{control_wish}
 use Rattle.wishes.specs.DataFrame.{data_wish}
+use Rattle.wishes.specs.declared.outcome.Refusal.{Refusal}
 use Rattle.wishes.specs.declared.wish.Wish.{Wish}
 use Rattle.session.specs.declared.decision.Event.{Event}
 use Rattle.session.specs.declared.decision.Event.TheVariants.{AudioDataReceived, VideoDataReceived}
@@ -15,8 +15,8 @@ use Rattle.messages.specs.Messages.{media_event}
 use Rattle.story.specs.Steps.{Call, accept, finish, media, message, reject, send_audio, send_metadata, send_ping, send_video}
 
 pub data Doing : Type 0 where
-  -- a user control, data or command message on a stream, and what it wants
-  Wants : StreamId → Wish → Doing
+  -- a user control, data or command message on a stream, and what it wants, or why it can't be read
+  Wants : StreamId → Result Wish Refusal → Doing
   -- audio or video on a stream, and the event that it may raise
   Shows : StreamId → Event → Doing
   -- a message of another type
@@ -44,7 +44,7 @@ doing (media kind x timestamp) = Shows x (media_event kind timestamp)
 doing (accept n clock out) = Accepts n
 doing (reject n code description clock out) = Rejects n (short code description)
 doing (finish x clock out) = Finishes x
-doing (send_metadata x m clock out) = Sends (some x.0)
-doing (send_audio x timestamp droppable body out) = Sends (some x.0)
-doing (send_video x timestamp droppable body out) = Sends (some x.0)
-doing (send_ping clock out) = Sends none
+doing (send_metadata x m clock out) = Sends (Some x.0)
+doing (send_audio x timestamp droppable body out) = Sends (Some x.0)
+doing (send_video x timestamp droppable body out) = Sends (Some x.0)
+doing (send_ping clock out) = Sends None

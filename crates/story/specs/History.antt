@@ -1,18 +1,17 @@
 -- Document 01's words over calls and their answers alone: filed, decided, waiting, joined, and the last effective step on a stream.
-use Rattle.std.specs.Prelude.{ℕ, ◌+◌, Bool, true, false, List, [], ◌∷◌, eqb}
-use Rattle.std.proofs.Math.Option.{Option, some, none}
+use Rattle.std.specs.Prelude.{ℕ, ◌+◌, Bool, true, false, List, [], ◌∷◌, Option, Some, None, Result, Ok, Err, eqb}
 use Rattle.numbers.specs.Choose.{pick}
 use Rattle.text.specs.declared.ids.StreamId.{StreamId}
 use Rattle.text.specs.declared.names.Name.{Name}
 use Rattle.tables.specs.declared.requests.RequestKind.{RequestKind}
 use Rattle.tables.specs.declared.requests.RequestKind.TheVariants.{Connect, Publish, Play}
-use Rattle.wishes.specs.Outcome.{number_of}
-use Rattle.wishes.specs.declared.outcome.Outcome.{Outcome}
-use Rattle.wishes.specs.declared.wish.Want.{Want}
-use Rattle.wishes.specs.declared.wish.Want.TheVariants.{Nothing, Refused, CreateStream, CloseStream, DeleteStream, Metadata, PingRequest, PingResponse}
-use Rattle.wishes.specs.declared.wish.Want.TheVariants.{Connect as ConnectWant, Publish as PublishWant, Play as PlayWant}
+use Rattle.wishes.specs.Outcome.{Outcome, number_of}
+use Rattle.wishes.specs.declared.outcome.Refusal.{Refusal}
+use Rattle.wishes.specs.declared.wish.Wish.{Wish}
+use Rattle.wishes.specs.declared.wish.Wish.TheVariants.{Nothing, CreateStream, CloseStream, DeleteStream, Metadata, PingRequest, PingResponse}
+use Rattle.wishes.specs.declared.wish.Wish.TheVariants.{Connect as ConnectWish, Publish as PublishWish, Play as PlayWish}
 use Rattle.session.specs.declared.decision.Event.{Event}
-use Rattle.session.specs.declared.decision.Event.TheVariants.{NoEvent, ConnectionRequested, PublishStreamRequested, PlayStreamRequested, PublishStreamFinished, PlayStreamFinished, StreamMetadataChanged, AudioDataReceived, VideoDataReceived, PingResponseReceived}
+use Rattle.session.specs.declared.decision.Event.TheVariants.{ConnectionRequested, PublishStreamRequested, PlayStreamRequested, PublishStreamFinished, PlayStreamFinished, StreamMetadataChanged, AudioDataReceived, VideoDataReceived, PingResponseReceived}
 use Rattle.story.specs.Steps.{Response}
 use Rattle.story.specs.Doings.{Doing, Wants, Shows, Rests, Accepts, Rejects, Finishes, Sends, doing}
 use Rattle.story.specs.Runs.{Told}
@@ -29,49 +28,49 @@ pub record Filed : Type 0 where
   -- the app of a connect, the key of a publish or a play
   pub name : Name
 
-abbrev pub filed_by : StreamId → Event → Name → Name → Option Filed
-filed_by x NoEvent app key = none
-filed_by x (ConnectionRequested n) app key = some (record { number = n.0; kind = Connect; stream = 0; name = app })
-filed_by x (PublishStreamRequested n mode) app key = some (record { number = n.0; kind = Publish; stream = x.0; name = key })
-filed_by x (PlayStreamRequested n start duration reset y) app key = some (record { number = n.0; kind = Play; stream = y.0; name = key })
-filed_by x PublishStreamFinished app key = none
-filed_by x PlayStreamFinished app key = none
-filed_by x StreamMetadataChanged app key = none
-filed_by x (AudioDataReceived t) app key = none
-filed_by x (VideoDataReceived t) app key = none
-filed_by x (PingResponseReceived t) app key = none
+abbrev pub filed_by : StreamId → Option Event → Name → Name → Option Filed
+filed_by x None app key = None
+filed_by x (Some (ConnectionRequested n)) app key = Some (record { number = n.0; kind = Connect; stream = 0; name = app })
+filed_by x (Some (PublishStreamRequested n mode)) app key = Some (record { number = n.0; kind = Publish; stream = x.0; name = key })
+filed_by x (Some (PlayStreamRequested n start duration reset y)) app key = Some (record { number = n.0; kind = Play; stream = y.0; name = key })
+filed_by x (Some PublishStreamFinished) app key = None
+filed_by x (Some PlayStreamFinished) app key = None
+filed_by x (Some StreamMetadataChanged) app key = None
+filed_by x (Some (AudioDataReceived t)) app key = None
+filed_by x (Some (VideoDataReceived t)) app key = None
+filed_by x (Some (PingResponseReceived t)) app key = None
 
 abbrev pub filing : Doing → Response → Option Filed
 filing (Wants x w) r = filed_by x r.event r.app r.key
-filing (Shows x e) r = none
-filing Rests r = none
-filing (Accepts n) r = none
-filing (Rejects n short) r = none
-filing (Finishes x) r = none
-filing (Sends x) r = none
+filing (Shows x e) r = None
+filing Rests r = None
+filing (Accepts n) r = None
+filing (Rejects n short) r = None
+filing (Finishes x) r = None
+filing (Sends x) r = None
 
 abbrev pub numbered : ℕ → Option Filed → Option Filed → Option Filed
-numbered n none old = old
-numbered n (some f) old = pick (eqb f.number n) (some f) old
+numbered n None old = old
+numbered n (Some f) old = pick (eqb f.number n) (Some f) old
 
 -- the request that was filed under a number
 unfoldable pub filed : ℕ → List Told → Option Filed
-filed n [] = none
+filed n [] = None
 filed n (e ∷ h) = numbered n (filing (doing e.call) e.answer) (filed n h)
 
 -- ---- "decided (answer 0, or 11 from an accept)"
 abbrev pub decides : Doing → Outcome → Option ℕ
-decides (Wants x w) o = none
-decides (Shows x e) o = none
-decides Rests o = none
-decides (Accepts n) o = pick (done o) (some n.0) (pick (eqb (number_of o) 11) (some n.0) none)
-decides (Rejects n short) o = pick (done o) (some n.0) none
-decides (Finishes x) o = none
-decides (Sends x) o = none
+decides (Wants x w) o = None
+decides (Shows x e) o = None
+decides Rests o = None
+decides (Accepts n) o = pick (done o) (Some n.0) (pick (eqb (number_of o) 11) (Some n.0) None)
+decides (Rejects n short) o = pick (done o) (Some n.0) None
+decides (Finishes x) o = None
+decides (Sends x) o = None
 
 abbrev pub is_it : ℕ → Option ℕ → Bool → Bool
-is_it n none old = old
-is_it n (some m) old = pick (eqb m n) true old
+is_it n None old = old
+is_it n (Some m) old = pick (eqb m n) true old
 
 unfoldable pub decided : ℕ → List Told → Bool
 decided n [] = false
@@ -79,12 +78,12 @@ decided n (e ∷ h) = is_it n (decides (doing e.call) e.answer.outcome) (decided
 
 -- filed, and not decided since
 abbrev pub waiting : ℕ → List Told → Option Filed
-waiting n h = pick (decided n h) none (filed n h)
+waiting n h = pick (decided n h) None (filed n h)
 
 -- ---- how many
 abbrev pub one_for : {A : Type 0} → Option A → ℕ
-one_for none = 0
-one_for (some a) = 1
+one_for None = 0
+one_for (Some a) = 1
 
 unfoldable pub filings : List Told → ℕ
 filings [] = 0
@@ -96,8 +95,8 @@ decisions (e ∷ h) = decisions h + one_for (decides (doing e.call) e.answer.out
 
 -- how often a request was decided
 abbrev pub hits : ℕ → Option ℕ → ℕ
-hits n none = 0
-hits n (some m) = pick (eqb m n) 1 0
+hits n None = 0
+hits n (Some m) = pick (eqb m n) 1 0
 
 unfoldable pub times_decided : ℕ → List Told → ℕ
 times_decided n [] = 0
@@ -105,13 +104,13 @@ times_decided n (e ∷ h) = times_decided n h + hits n (decides (doing e.call) e
 
 -- ---- "Accepting a connect sets the app and Connected, which never ends.": the app of the last one that was accepted with 0
 abbrev pub joining_kind : RequestKind → Name → Option Name → Option Name
-joining_kind Connect app old = some app
+joining_kind Connect app old = Some app
 joining_kind Publish app old = old
 joining_kind Play app old = old
 
 abbrev pub joining : Option Filed → Option Name → Option Name
-joining none old = old
-joining (some f) old = joining_kind f.kind f.name old
+joining None old = old
+joining (Some f) old = joining_kind f.kind f.name old
 
 abbrev pub joined_by : Doing → Outcome → List Told → Option Name → Option Name
 joined_by (Wants x w) o h old = old
@@ -123,25 +122,25 @@ joined_by (Finishes x) o h old = old
 joined_by (Sends x) o h old = old
 
 unfoldable pub joined : List Told → Option Name
-joined [] = none
+joined [] = None
 joined (e ∷ h) = joined_by (doing e.call) e.answer.outcome h (joined h)
 
 -- ---- "createStream: connected or not, makes the next number, from 1"
-abbrev pub makes : Want → ℕ
-makes Nothing = 0
-makes (Refused o) = 0
-makes (ConnectWant transaction encoding) = 0
-makes (CreateStream transaction) = 1
-makes (CloseStream y) = 0
-makes (DeleteStream y) = 0
-makes (PublishWant transaction arguments) = 0
-makes (PlayWant transaction arguments) = 0
-makes Metadata = 0
-makes (PingRequest v) = 0
-makes (PingResponse v) = 0
+abbrev pub makes : Result Wish Refusal → ℕ
+makes (Ok Nothing) = 0
+makes (Err o) = 0
+makes (Ok (ConnectWish transaction encoding app)) = 0
+makes (Ok (CreateStream transaction)) = 1
+makes (Ok (CloseStream y)) = 0
+makes (Ok (DeleteStream y)) = 0
+makes (Ok (PublishWish transaction arguments)) = 0
+makes (Ok (PlayWish transaction arguments)) = 0
+makes (Ok (Metadata read)) = 0
+makes (Ok (PingRequest v)) = 0
+makes (Ok (PingResponse v)) = 0
 
 abbrev pub creation : Doing → Outcome → ℕ
-creation (Wants x w) o = pick (done o) (makes w.want) 0
+creation (Wants x w) o = pick (done o) (makes w) 0
 creation (Shows x e) o = 0
 creation Rests o = 0
 creation (Accepts n) o = 0
@@ -174,21 +173,21 @@ stands Finishing = true
 
 -- "closeStream, deleteStream: nothing unless connected and the first argument is a number whose u32 names a stream"
 abbrev pub ending : Last → Option Name → Last → Last
-ending new none old = old
-ending new (some app) old = pick (stands old) new old
+ending new None old = old
+ending new (Some app) old = pick (stands old) new old
 
-abbrev pub effect_of_want : ℕ → Want → List Told → Last → Last
-effect_of_want x Nothing h old = old
-effect_of_want x (Refused o) h old = old
-effect_of_want x (ConnectWant transaction encoding) h old = old
-effect_of_want x (CreateStream transaction) h old = pick (eqb (creations h + 1) x) Creation old
-effect_of_want x (CloseStream y) h old = pick (eqb y.0 x) (ending Closing (joined h) old) old
-effect_of_want x (DeleteStream y) h old = pick (eqb y.0 x) (ending Deletion (joined h) old) old
-effect_of_want x (PublishWant transaction arguments) h old = old
-effect_of_want x (PlayWant transaction arguments) h old = old
-effect_of_want x Metadata h old = old
-effect_of_want x (PingRequest v) h old = old
-effect_of_want x (PingResponse v) h old = old
+abbrev pub effect_of_want : ℕ → Result Wish Refusal → List Told → Last → Last
+effect_of_want x (Ok Nothing) h old = old
+effect_of_want x (Err o) h old = old
+effect_of_want x (Ok (ConnectWish transaction encoding app)) h old = old
+effect_of_want x (Ok (CreateStream transaction)) h old = pick (eqb (creations h + 1) x) Creation old
+effect_of_want x (Ok (CloseStream y)) h old = pick (eqb y.0 x) (ending Closing (joined h) old) old
+effect_of_want x (Ok (DeleteStream y)) h old = pick (eqb y.0 x) (ending Deletion (joined h) old) old
+effect_of_want x (Ok (PublishWish transaction arguments)) h old = old
+effect_of_want x (Ok (PlayWish transaction arguments)) h old = old
+effect_of_want x (Ok (Metadata read)) h old = old
+effect_of_want x (Ok (PingRequest v)) h old = old
+effect_of_want x (Ok (PingResponse v)) h old = old
 
 -- "Accepting publish or play sets that state from whatever stood there"
 abbrev pub acceptance : RequestKind → Name → Last → Last
@@ -197,12 +196,12 @@ acceptance Publish key old = PublishAccepted key
 acceptance Play key old = PlayAccepted key
 
 abbrev pub accepting : ℕ → Option Filed → Last → Last
-accepting x none old = old
-accepting x (some f) old = pick (eqb f.stream x) (acceptance f.kind f.name old) old
+accepting x None old = old
+accepting x (Some f) old = pick (eqb f.stream x) (acceptance f.kind f.name old) old
 
 -- the last effective step on x, if this step comes after `old`: a step that is refused changes nothing, and 11 no stream
 abbrev pub effect : ℕ → Doing → Outcome → List Told → Last → Last
-effect x (Wants y w) o h old = pick (done o) (effect_of_want x w.want h old) old
+effect x (Wants y w) o h old = pick (done o) (effect_of_want x w h old) old
 effect x (Shows y e) o h old = old
 effect x Rests o h old = old
 effect x (Accepts n) o h old = pick (done o) (accepting x (filed n.0 h) old) old

@@ -1,7 +1,8 @@
 -- Demand 3, the second half: two runs with the same further steps in another order. Steps are tagged; a list has the NEWEST FIRST.
-use Rattle.std.specs.Prelude.{ℕ, ◌+◌, ◌≡◌, Bool, false, ◌||◌, List, [], ◌∷◌, eqb}
-use Rattle.std.proofs.Math.Option.{Option, some, none}
+use Rattle.std.specs.Prelude.{ℕ, ◌+◌, ◌≡◌, Bool, false, ◌||◌, List, [], ◌∷◌, Option, Some, None, Result, Ok, Err, eqb}
+use Rattle.std.specs.Option.{unwrap_or}
 use Rattle.numbers.specs.Choose.{pick}
+use Rattle.text.specs.Names.{empty_name}
 use Rattle.text.specs.declared.ids.RequestId.{RequestId}
 use Rattle.text.specs.declared.ids.StreamId.{StreamId}
 use Rattle.text.specs.declared.names.Name.{Name}
@@ -9,16 +10,17 @@ use Rattle.text.specs.declared.words.PublishMode.TheVariants.{Live}
 use Rattle.tables.specs.declared.requests.Request.{Request}
 use Rattle.tables.specs.declared.requests.RequestKind.TheVariants.{Connect, Publish, Play}
 use Rattle.wishes.specs.Outcome.{number_of}
+use Rattle.wishes.specs.declared.outcome.Refusal.{Refusal}
 use Rattle.wishes.specs.declared.wish.PlayArguments.{PlayArguments}
-use Rattle.wishes.specs.declared.wish.PlayArguments.TheVariants.{TooFew as PlayTooFew, KeyNoString as PlayKeyNoString, Good as PlayGood}
+use Rattle.wishes.specs.declared.wish.PlayFault.{PlayFault}
 use Rattle.wishes.specs.declared.wish.PublishArguments.{PublishArguments}
-use Rattle.wishes.specs.declared.wish.PublishArguments.TheVariants.{TooFew, KeyNoString, ModeNoString, ModeUnknown, Good as PublishGood}
-use Rattle.wishes.specs.declared.wish.Want.{Want}
-use Rattle.wishes.specs.declared.wish.Want.TheVariants.{Nothing, Refused, CreateStream, CloseStream, DeleteStream, Metadata, PingRequest, PingResponse}
-use Rattle.wishes.specs.declared.wish.Want.TheVariants.{Connect as ConnectWant, Publish as PublishWant, Play as PlayWant}
+use Rattle.wishes.specs.declared.wish.PublishFault.{PublishFault}
+use Rattle.wishes.specs.declared.wish.Wish.{Wish}
+use Rattle.wishes.specs.declared.wish.Wish.TheVariants.{Nothing, CreateStream, CloseStream, DeleteStream, Metadata, PingRequest, PingResponse}
+use Rattle.wishes.specs.declared.wish.Wish.TheVariants.{Connect as ConnectWish, Publish as PublishWish, Play as PlayWish}
 use Rattle.session.specs.State.{request_of, stream_of}
 use Rattle.session.specs.declared.decision.Event.{Event}
-use Rattle.session.specs.declared.decision.Event.TheVariants.{NoEvent, ConnectionRequested, PublishStreamRequested, PlayStreamRequested, PublishStreamFinished, PlayStreamFinished, StreamMetadataChanged, AudioDataReceived, VideoDataReceived, PingResponseReceived}
+use Rattle.session.specs.declared.decision.Event.TheVariants.{ConnectionRequested, PublishStreamRequested, PlayStreamRequested, PublishStreamFinished, PlayStreamFinished, StreamMetadataChanged, AudioDataReceived, VideoDataReceived, PingResponseReceived}
 use Rattle.session.specs.declared.session.Session.{Session}
 use Rattle.story.specs.Steps.{Call, Response, accept, reject, step}
 use Rattle.story.specs.Doings.{Doing, Wants, Shows, Rests, Accepts, Rejects, Finishes, Sends, doing}
@@ -30,13 +32,13 @@ pub record Tagged (A : Type 0) : Type 0 where
   pub held : A
 
 unfoldable pub under : {A : Type 0} → ℕ → List (Tagged A) → Option A
-under t [] = none
-under t (p ∷ l) = pick (eqb p.tag t) (some p.held) (under t l)
+under t [] = None
+under t (p ∷ l) = pick (eqb p.tag t) (Some p.held) (under t l)
 
 -- each tag once
 abbrev pub Once : {A : Type 0} → List (Tagged A) → Type 0
 Once [] = Unit {0}
-Once (p ∷ l) = (under p.tag l ≡ none) × Once l
+Once (p ∷ l) = (under p.tag l ≡ None) × Once l
 
 -- ---- steps. A decision names its request: one that waits after the common part, by its number; or the one that the step of a tag filed
 pub data Ref : Type 0 where
@@ -55,25 +57,25 @@ abbrev pub Log : Type 0
 Log = Session × List (Tagged Response)
 
 -- the request's number in an event
-abbrev pub request_in : Event → Option ℕ
-request_in NoEvent = none
-request_in (ConnectionRequested n) = some n.0
-request_in (PublishStreamRequested n mode) = some n.0
-request_in (PlayStreamRequested n start duration reset x) = some n.0
-request_in PublishStreamFinished = none
-request_in PlayStreamFinished = none
-request_in StreamMetadataChanged = none
-request_in (AudioDataReceived t) = none
-request_in (VideoDataReceived t) = none
-request_in (PingResponseReceived t) = none
+abbrev pub request_in : Option Event → Option ℕ
+request_in (Some (ConnectionRequested n)) = Some n.0
+request_in (Some (PublishStreamRequested n mode)) = Some n.0
+request_in (Some (PlayStreamRequested n start duration reset x)) = Some n.0
+request_in (Some PublishStreamFinished) = None
+request_in (Some PlayStreamFinished) = None
+request_in (Some StreamMetadataChanged) = None
+request_in (Some (AudioDataReceived t)) = None
+request_in (Some (VideoDataReceived t)) = None
+request_in (Some (PingResponseReceived t)) = None
+request_in None = None
 
 abbrev pub number_in : Option Response → Option ℕ
-number_in none = none
-number_in (some r) = request_in r.event
+number_in None = None
+number_in (Some r) = request_in r.event
 
 abbrev pub or_else : ℕ → Option ℕ → ℕ
-or_else d none = d
-or_else d (some n) = n
+or_else d None = d
+or_else d (Some n) = n
 
 -- the number of the request in this run; where the step of the tag filed none, the next one, which no request has
 abbrev pub resolve : Log → Ref → RequestId
@@ -104,48 +106,45 @@ abbrev pub unnumbered : Request → Request
 unnumbered r = record { id = record { 0 = 0 }; kind = r.kind; stream = r.stream; mode = r.mode; transaction = r.transaction; name = r.name }
 
 abbrev pub waiting_ask : Option Request → Option Request
-waiting_ask none = none
-waiting_ask (some r) = some (unnumbered r)
+waiting_ask None = None
+waiting_ask (Some r) = Some (unnumbered r)
 
-abbrev pub publish_ask : StreamId → PublishArguments → Name → Option Request
-publish_ask x TooFew key = none
-publish_ask x KeyNoString key = none
-publish_ask x ModeNoString key = none
-publish_ask x ModeUnknown key = none
-publish_ask x (PublishGood mode) key = some (record { id = record { 0 = 0 }; kind = Publish; stream = x; mode = mode; transaction = 0; name = key })
+-- a name over 128 bytes stands as the empty one: with it nothing is filed
+abbrev pub publish_ask : StreamId → Result PublishArguments PublishFault → Option Request
+publish_ask x (Ok a) = Some (record { id = record { 0 = 0 }; kind = Publish; stream = x; mode = a.mode; transaction = 0; name = unwrap_or a.key empty_name })
+publish_ask x (Err f) = None
 
-abbrev pub play_ask : StreamId → PlayArguments → Name → Option Request
-play_ask x PlayTooFew key = none
-play_ask x PlayKeyNoString key = none
-play_ask x (PlayGood start duration reset) key = some (record { id = record { 0 = 0 }; kind = Play; stream = x; mode = Live; transaction = 0; name = key })
+abbrev pub play_ask : StreamId → Result PlayArguments PlayFault → Option Request
+play_ask x (Ok a) = Some (record { id = record { 0 = 0 }; kind = Play; stream = x; mode = Live; transaction = 0; name = unwrap_or a.key empty_name })
+play_ask x (Err f) = None
 
-abbrev pub want_ask : StreamId → Want → Name → Option Request
-want_ask x Nothing name = none
-want_ask x (Refused o) name = none
-want_ask x (ConnectWant transaction encoding) name = none
-want_ask x (CreateStream transaction) name = none
-want_ask x (CloseStream y) name = none
-want_ask x (DeleteStream y) name = none
-want_ask x (PublishWant transaction arguments) name = publish_ask x arguments name
-want_ask x (PlayWant transaction arguments) name = play_ask x arguments name
-want_ask x Metadata name = none
-want_ask x (PingRequest v) name = none
-want_ask x (PingResponse v) name = none
+abbrev pub want_ask : StreamId → Result Wish Refusal → Option Request
+want_ask x (Ok Nothing) = None
+want_ask x (Ok (ConnectWish transaction encoding app)) = None
+want_ask x (Ok (CreateStream transaction)) = None
+want_ask x (Ok (CloseStream y)) = None
+want_ask x (Ok (DeleteStream y)) = None
+want_ask x (Ok (PublishWish transaction arguments)) = publish_ask x arguments
+want_ask x (Ok (PlayWish transaction arguments)) = play_ask x arguments
+want_ask x (Ok (Metadata read)) = None
+want_ask x (Ok (PingRequest v)) = None
+want_ask x (Ok (PingResponse v)) = None
+want_ask x (Err r) = None
 
 abbrev pub doing_ask : Doing → Option Request
-doing_ask (Wants x w) = want_ask x w.want w.name
-doing_ask (Shows x e) = none
-doing_ask Rests = none
-doing_ask (Accepts n) = none
-doing_ask (Rejects n short) = none
-doing_ask (Finishes x) = none
-doing_ask (Sends x) = none
+doing_ask (Wants x w) = want_ask x w
+doing_ask (Shows x e) = None
+doing_ask Rests = None
+doing_ask (Accepts n) = None
+doing_ask (Rejects n short) = None
+doing_ask (Finishes x) = None
+doing_ask (Sends x) = None
 
 abbrev pub act_ask : Option Act → Option Request
-act_ask none = none
-act_ask (some (Plain c)) = doing_ask (doing c)
-act_ask (some (Accept r clock out)) = none
-act_ask (some (Reject r code description clock out)) = none
+act_ask None = None
+act_ask (Some (Plain c)) = doing_ask (doing c)
+act_ask (Some (Accept r clock out)) = None
+act_ask (Some (Reject r code description clock out)) = None
 
 -- s is the session after the common part
 abbrev pub ask_at : Session → List (Tagged Act) → Ref → Option Request
@@ -155,7 +154,7 @@ ask_at s older (By t) = act_ask (under t older)
 -- ---- "a step without a stream may stand anywhere; any other belongs to: the stream it creates; the argument's stream for close and delete;
 -- the message's stream for other commands, data and media; the request's stream for a decision; the call's stream for a finish or send."
 abbrev pub made_by : Doing → ℕ
-made_by (Wants x w) = makes w.want
+made_by (Wants x w) = makes w
 made_by (Shows x e) = 0
 made_by Rests = 0
 made_by (Accepts n) = 0
@@ -174,30 +173,30 @@ creations_in (p ∷ older) = creations_in older + creates p.held
 
 -- next: the number that a creation makes. What can't be read, and a command or data that does nothing, is counted to no stream:
 -- that asks less of two runs than the sentence does
-abbrev pub owner_of_want : ℕ → StreamId → Want → Option ℕ
-owner_of_want next x Nothing = none
-owner_of_want next x (Refused o) = none
-owner_of_want next x (ConnectWant transaction encoding) = none
-owner_of_want next x (CreateStream transaction) = some next
-owner_of_want next x (CloseStream y) = some y.0
-owner_of_want next x (DeleteStream y) = some y.0
-owner_of_want next x (PublishWant transaction arguments) = some x.0
-owner_of_want next x (PlayWant transaction arguments) = some x.0
-owner_of_want next x Metadata = some x.0
-owner_of_want next x (PingRequest v) = none
-owner_of_want next x (PingResponse v) = none
+abbrev pub owner_of_want : ℕ → StreamId → Result Wish Refusal → Option ℕ
+owner_of_want next x (Ok Nothing) = None
+owner_of_want next x (Err o) = None
+owner_of_want next x (Ok (ConnectWish transaction encoding app)) = None
+owner_of_want next x (Ok (CreateStream transaction)) = Some next
+owner_of_want next x (Ok (CloseStream y)) = Some y.0
+owner_of_want next x (Ok (DeleteStream y)) = Some y.0
+owner_of_want next x (Ok (PublishWish transaction arguments)) = Some x.0
+owner_of_want next x (Ok (PlayWish transaction arguments)) = Some x.0
+owner_of_want next x (Ok (Metadata read)) = Some x.0
+owner_of_want next x (Ok (PingRequest v)) = None
+owner_of_want next x (Ok (PingResponse v)) = None
 
 abbrev pub stream_in : Option Request → Option ℕ
-stream_in none = none
-stream_in (some r) = some r.stream.0
+stream_in None = None
+stream_in (Some r) = Some r.stream.0
 
 abbrev pub owner_of : ℕ → Doing → Option ℕ
-owner_of next (Wants x w) = owner_of_want next x w.want
-owner_of next (Shows x e) = some x.0
-owner_of next Rests = none
-owner_of next (Accepts n) = none
-owner_of next (Rejects n short) = none
-owner_of next (Finishes x) = some x.0
+owner_of next (Wants x w) = owner_of_want next x w
+owner_of next (Shows x e) = Some x.0
+owner_of next Rests = None
+owner_of next (Accepts n) = None
+owner_of next (Rejects n short) = None
+owner_of next (Finishes x) = Some x.0
 owner_of next (Sends x) = x
 
 abbrev pub owner : Session → List (Tagged Act) → Act → Option ℕ
@@ -206,8 +205,8 @@ owner s older (Accept r clock out) = stream_in (ask_at s older r)
 owner s older (Reject r code description clock out) = stream_in (ask_at s older r)
 
 abbrev pub owns : ℕ → Option ℕ → Bool
-owns x none = false
-owns x (some y) = eqb y x
+owns x None = false
+owns x (Some y) = eqb y x
 
 -- the steps that belong to x, in their order
 unfoldable pub mine : Session → ℕ → List (Tagged Act) → List (Tagged Act)
@@ -225,21 +224,21 @@ Each P [] = Unit {0}
 Each P (p ∷ older) = P older p.held × Each P older
 
 -- "no connect business after": no connect, and no decision of one; each decision names its request by a Ref
-abbrev pub ConnectlessWant : Want → Type 0
-ConnectlessWant Nothing = Unit {0}
-ConnectlessWant (Refused o) = Unit {0}
-ConnectlessWant (ConnectWant transaction encoding) = ⊥
-ConnectlessWant (CreateStream transaction) = Unit {0}
-ConnectlessWant (CloseStream y) = Unit {0}
-ConnectlessWant (DeleteStream y) = Unit {0}
-ConnectlessWant (PublishWant transaction arguments) = Unit {0}
-ConnectlessWant (PlayWant transaction arguments) = Unit {0}
-ConnectlessWant Metadata = Unit {0}
-ConnectlessWant (PingRequest v) = Unit {0}
-ConnectlessWant (PingResponse v) = Unit {0}
+abbrev pub ConnectlessWant : Result Wish Refusal → Type 0
+ConnectlessWant (Ok Nothing) = Unit {0}
+ConnectlessWant (Err o) = Unit {0}
+ConnectlessWant (Ok (ConnectWish transaction encoding app)) = ⊥
+ConnectlessWant (Ok (CreateStream transaction)) = Unit {0}
+ConnectlessWant (Ok (CloseStream y)) = Unit {0}
+ConnectlessWant (Ok (DeleteStream y)) = Unit {0}
+ConnectlessWant (Ok (PublishWish transaction arguments)) = Unit {0}
+ConnectlessWant (Ok (PlayWish transaction arguments)) = Unit {0}
+ConnectlessWant (Ok (Metadata read)) = Unit {0}
+ConnectlessWant (Ok (PingRequest v)) = Unit {0}
+ConnectlessWant (Ok (PingResponse v)) = Unit {0}
 
 abbrev pub Connectless : Doing → Type 0
-Connectless (Wants x w) = ConnectlessWant w.want
+Connectless (Wants x w) = ConnectlessWant w
 Connectless (Shows x e) = Unit {0}
 Connectless Rests = Unit {0}
 Connectless (Accepts n) = ⊥
@@ -248,8 +247,8 @@ Connectless (Finishes x) = Unit {0}
 Connectless (Sends x) = Unit {0}
 
 abbrev pub NotOfConnect : Option Request → Type 0
-NotOfConnect none = Unit {0}
-NotOfConnect (some r) = r.kind ≡ Connect → ⊥
+NotOfConnect None = Unit {0}
+NotOfConnect (Some r) = r.kind ≡ Connect → ⊥
 
 abbrev pub NoConnect : Session → List (Tagged Act) → Act → Type 0
 NoConnect s older (Plain c) = Connectless (doing c)
@@ -266,8 +265,8 @@ HasRoom s older act = for_room (number_of (answer_to s older act).outcome) ≡ f
 -- "every decision finds the request that the same step filed"
 abbrev pub Finds : Session → List (Tagged Act) → Act → Type 0
 Finds s older (Plain c) = Unit {0}
-Finds s older (Accept r clock out) = ((q : Request) × (ask_at s older r ≡ some q)) × (number_of (answer_to s older (Accept r clock out)).outcome ≡ 10 → ⊥)
-Finds s older (Reject r code description clock out) = ((q : Request) × (ask_at s older r ≡ some q)) × (number_of (answer_to s older (Reject r code description clock out)).outcome ≡ 10 → ⊥)
+Finds s older (Accept r clock out) = ((q : Request) × (ask_at s older r ≡ Some q)) × (number_of (answer_to s older (Accept r clock out)).outcome ≡ 10 → ⊥)
+Finds s older (Reject r code description clock out) = ((q : Request) × (ask_at s older r ≡ Some q)) × (number_of (answer_to s older (Reject r code description clock out)).outcome ≡ 10 → ⊥)
 
 -- "Both hold the same further steps": the clock and the lent buffer are part of a step
 pub data Permuted {A : Type 0} : List (Tagged A) → List (Tagged A) → Type 0 where
@@ -292,24 +291,24 @@ pub record Premises (s : Session) (l m : List (Tagged Act)) : Type 0 where
   pub finds : Each (Finds s) l × Each (Finds s) m
 
 -- ---- "each step gives the same answer, request numbers apart"
-abbrev pub plain_event : Event → Event
-plain_event NoEvent = NoEvent
-plain_event (ConnectionRequested n) = ConnectionRequested (record { 0 = 0 })
-plain_event (PublishStreamRequested n mode) = PublishStreamRequested (record { 0 = 0 }) mode
-plain_event (PlayStreamRequested n start duration reset x) = PlayStreamRequested (record { 0 = 0 }) start duration reset x
-plain_event PublishStreamFinished = PublishStreamFinished
-plain_event PlayStreamFinished = PlayStreamFinished
-plain_event StreamMetadataChanged = StreamMetadataChanged
-plain_event (AudioDataReceived t) = AudioDataReceived t
-plain_event (VideoDataReceived t) = VideoDataReceived t
-plain_event (PingResponseReceived t) = PingResponseReceived t
+abbrev pub plain_event : Option Event → Option Event
+plain_event (Some (ConnectionRequested n)) = Some (ConnectionRequested (record { 0 = 0 }))
+plain_event (Some (PublishStreamRequested n mode)) = Some (PublishStreamRequested (record { 0 = 0 }) mode)
+plain_event (Some (PlayStreamRequested n start duration reset x)) = Some (PlayStreamRequested (record { 0 = 0 }) start duration reset x)
+plain_event (Some PublishStreamFinished) = Some PublishStreamFinished
+plain_event (Some PlayStreamFinished) = Some PlayStreamFinished
+plain_event (Some StreamMetadataChanged) = Some StreamMetadataChanged
+plain_event (Some (AudioDataReceived t)) = Some (AudioDataReceived t)
+plain_event (Some (VideoDataReceived t)) = Some (VideoDataReceived t)
+plain_event (Some (PingResponseReceived t)) = Some (PingResponseReceived t)
+plain_event None = None
 
 abbrev pub plain : Response → Response
 plain r = record { outcome = r.outcome; event = plain_event r.event; app = r.app; key = r.key; metadata = r.metadata; count = r.count; timestamp = r.timestamp; out = r.out }
 
 abbrev pub plain_answer : Option Response → Option Response
-plain_answer none = none
-plain_answer (some r) = some (plain r)
+plain_answer None = None
+plain_answer (Some r) = Some (plain r)
 
 -- "Then each step gives the same answer, request numbers apart, and each stream ends alike.": outcome, event, app, key, metadata, count and every byte; state, mode and key
 pub record Alike (s : Session) (l m : List (Tagged Act)) : Type 0 where

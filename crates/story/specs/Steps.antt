@@ -1,21 +1,20 @@
 -- A call with all its inputs, and what it does: the answer that is told, and the next session.
-use Rattle.std.specs.Prelude.{ℕ, Bool, List, []}
+use Rattle.std.specs.Prelude.{ℕ, Bool, List, [], Option, Some, None, Result, Ok, Err}
 use Rattle.text.specs.Names.{empty_name}
 use Rattle.text.specs.declared.ids.RequestId.{RequestId}
 use Rattle.text.specs.declared.ids.StreamId.{StreamId}
 use Rattle.text.specs.declared.names.Name.{Name}
 use Rattle.metadata.specs.Metadata.{no_metadata}
 use Rattle.metadata.specs.declared.metadata.StreamMetadata.{StreamMetadata}
-use Rattle.wishes.specs.declared.outcome.Outcome.{Outcome}
+use Rattle.wishes.specs.Outcome.{Outcome}
+use Rattle.wishes.specs.declared.outcome.Refusal.{Refusal}
 use Rattle.session.specs.declared.decision.Event.{Event}
-use Rattle.session.specs.declared.decision.Event.TheVariants.{NoEvent}
 use Rattle.session.specs.declared.session.Session.{Session}
 use Rattle.sending.specs.Sends.{sends_media, sends_metadata, sends_ping}
-use Rattle.sending.specs.declared.answer.PingAnswer.{PingAnswer}
-use Rattle.sending.specs.declared.answer.SendAnswer.{SendAnswer}
+use Rattle.sending.specs.declared.sends.PingSent.{PingSent}
+use Rattle.streams.specs.declared.streams.Frame.{Frame}
 use Rattle.replies.specs.declared.answer.Answer.{Answer}
 use Rattle.messages.specs.Messages.{handle_media, handle_message}
-use Rattle.messages.specs.declared.messages.MediaAnswer.{MediaAnswer}
 use Rattle.messages.specs.declared.messages.MediaKind.{MediaKind}
 use Rattle.calls.specs.Calls.{accepting, finishes, rejecting}
 
@@ -42,7 +41,7 @@ pub data Call : Type 0 where
 -- all that a caller sees of a step: the answer's fields, and the lent buffer afterwards
 pub record Response : Type 0 where
   pub outcome : Outcome
-  pub event : Event
+  pub event : Option Event
   pub app : Name
   pub key : Name
   pub metadata : StreamMetadata
@@ -55,18 +54,31 @@ abbrev pub answering : Answer × List ℕ → Response × Session
 answering a =
     (record { outcome = a.0.outcome; event = a.0.event; app = a.0.app; key = a.0.key; metadata = a.0.metadata; count = a.0.count; timestamp = 0; out = a.1 }, a.0.session)
 
-abbrev pub showing : Session → MediaAnswer → Response × Session
-showing s a = (record { outcome = a.outcome; event = a.event; app = a.app; key = a.key; metadata = no_metadata; count = 0; timestamp = 0; out = [] }, s)
-
 -- done or refused, with no event
 abbrev pub plainly : Outcome → ℕ → ℕ → List ℕ → Response
-plainly outcome count timestamp out = record { outcome = outcome; event = NoEvent; app = empty_name; key = empty_name; metadata = no_metadata; count = count; timestamp = timestamp; out = out }
+plainly outcome count timestamp out = record { outcome = outcome; event = None; app = empty_name; key = empty_name; metadata = no_metadata; count = count; timestamp = timestamp; out = out }
 
-abbrev pub sending_of : Session → SendAnswer × List ℕ → Response × Session
-sending_of s a = (plainly a.0.outcome a.0.count 0 a.1, s)
+abbrev pub shown : Result (Option Frame) Refusal → Response
+shown (Ok (Some f)) = record { outcome = Ok tt; event = Some f.event; app = f.app; key = f.key; metadata = no_metadata; count = 0; timestamp = 0; out = [] }
+shown (Ok None) = plainly (Ok tt) 0 0 []
+shown (Err r) = plainly (Err r) 0 0 []
 
-abbrev pub pinging_of : Session → PingAnswer × List ℕ → Response × Session
-pinging_of s a = (plainly a.0.outcome a.0.count a.0.timestamp a.1, s)
+abbrev pub showing : Session → Result (Option Frame) Refusal → Response × Session
+showing s a = (shown a, s)
+
+abbrev pub sent_as : Result ℕ Refusal → List ℕ → Response
+sent_as (Ok n) out = plainly (Ok tt) n 0 out
+sent_as (Err r) out = plainly (Err r) 0 0 out
+
+abbrev pub sending_of : Session → Result ℕ Refusal × List ℕ → Response × Session
+sending_of s a = (sent_as a.0 a.1, s)
+
+abbrev pub pinged_as : Result PingSent Refusal → List ℕ → Response
+pinged_as (Ok p) out = plainly (Ok tt) p.count p.timestamp out
+pinged_as (Err r) out = plainly (Err r) 0 0 out
+
+abbrev pub pinging_of : Session → Result PingSent Refusal × List ℕ → Response × Session
+pinging_of s a = (pinged_as a.0 a.1, s)
 
 -- ---- a step is what the function's contract says of it: the contract of `handle_message` is
 -- (result, out.new) ≡ handle_message session kind stream timestamp clock body out, and so on for each line

@@ -1,63 +1,71 @@
 -- What the theorems say of a run, in the history's words.
-use Rattle.std.specs.Prelude.{ℕ, ◌≡◌, Bool, true, false, List, [], ◌∷◌, ◌++◌, eqb}
-use Rattle.std.proofs.Math.Option.{Option, some, none}
+use Rattle.std.specs.Prelude.{ℕ, ◌≡◌, Bool, true, false, List, [], ◌∷◌, ◌++◌, Option, Some, None, Result, Ok, Err, eqb}
 use Rattle.numbers.specs.Choose.{pick}
+use Rattle.text.specs.Names.{empty_name}
 use Rattle.text.specs.declared.names.Name.{Name}
 use Rattle.tables.specs.declared.requests.RequestKind.{RequestKind}
 use Rattle.tables.specs.declared.requests.RequestKind.TheVariants.{Connect, Publish, Play}
 use Rattle.tables.specs.declared.requests.Request.{Request}
-use Rattle.wishes.specs.declared.outcome.Outcome.{Outcome}
-use Rattle.wishes.specs.declared.wish.Want.{Want}
-use Rattle.wishes.specs.declared.wish.Want.TheVariants.{Nothing, Refused, CreateStream, CloseStream, DeleteStream, Metadata, PingRequest, PingResponse}
-use Rattle.wishes.specs.declared.wish.Want.TheVariants.{Connect as ConnectWant, Publish as PublishWant, Play as PlayWant}
+use Rattle.wishes.specs.Outcome.{Outcome}
+use Rattle.wishes.specs.declared.outcome.Refusal.{Refusal}
+use Rattle.wishes.specs.declared.wish.Wish.{Wish}
+use Rattle.wishes.specs.declared.wish.Wish.TheVariants.{Nothing, CreateStream, CloseStream, DeleteStream, Metadata, PingRequest, PingResponse}
+use Rattle.wishes.specs.declared.wish.Wish.TheVariants.{Connect as ConnectWish, Publish as PublishWish, Play as PlayWish}
 use Rattle.session.specs.declared.decision.Event.{Event}
-use Rattle.streams.specs.Streams.{no_frame}
-use Rattle.streams.specs.declared.streams.Frame.{Frame}
 use Rattle.story.specs.Steps.{Call, Response, step}
 use Rattle.story.specs.Doings.{Doing, Wants, Shows, Rests, Accepts, Rejects, Finishes, Sends, doing}
 use Rattle.story.specs.Runs.{Start, Told, after, told}
 use Rattle.story.specs.History.{Filed, Last, Never, Creation, Closing, Deletion, PublishAccepted, PlayAccepted, Finishing, done, filed}
 
 -- the event of an answer with the app and the key that it is raised under
-abbrev pub frame_in : Response → Frame
+pub record Raised : Type 0 where
+  pub event : Option Event
+  pub app : Name
+  pub key : Name
+
+-- no event, no app, no key
+abbrev pub nothing_raised : Raised
+nothing_raised = record { event = None; app = empty_name; key = empty_name }
+
+abbrev pub frame_in : Response → Raised
 frame_in r = record { event = r.event; app = r.app; key = r.key }
 
 -- what audio or video on a stream raises, by the app joined and the last effective step on the stream
-abbrev pub story_frame : Option Name → Last → Event → Frame
-story_frame none last e = no_frame
-story_frame (some app) Never e = no_frame
-story_frame (some app) Creation e = no_frame
-story_frame (some app) Closing e = no_frame
-story_frame (some app) Deletion e = no_frame
-story_frame (some app) (PublishAccepted key) e = record { event = e; app = app; key = key }
-story_frame (some app) (PlayAccepted key) e = no_frame
-story_frame (some app) Finishing e = no_frame
+abbrev pub story_frame : Option Name → Last → Event → Raised
+story_frame None last e = nothing_raised
+story_frame (Some app) Never e = nothing_raised
+story_frame (Some app) Creation e = nothing_raised
+story_frame (Some app) Closing e = nothing_raised
+story_frame (Some app) Deletion e = nothing_raised
+story_frame (Some app) (PublishAccepted key) e = record { event = Some e; app = app; key = key }
+story_frame (Some app) (PlayAccepted key) e = nothing_raised
+story_frame (Some app) Finishing e = nothing_raised
 
 -- a request of the session's table as the history tells it
 abbrev pub as_filed : Request → Filed
 as_filed r = record { number = r.id.0; kind = r.kind; stream = r.stream.0; name = r.name }
 
 abbrev pub asked : Option Request → Option Filed
-asked none = none
-asked (some r) = some (as_filed r)
+asked None = None
+asked (Some r) = Some (as_filed r)
 
 -- ---- "frames filed under a closed key"
 -- a closeStream or a deleteStream of x
-abbrev pub ends_want : ℕ → Want → Bool
-ends_want x Nothing = false
-ends_want x (Refused o) = false
-ends_want x (ConnectWant transaction encoding) = false
-ends_want x (CreateStream transaction) = false
-ends_want x (CloseStream y) = eqb y.0 x
-ends_want x (DeleteStream y) = eqb y.0 x
-ends_want x (PublishWant transaction arguments) = false
-ends_want x (PlayWant transaction arguments) = false
-ends_want x Metadata = false
-ends_want x (PingRequest v) = false
-ends_want x (PingResponse v) = false
+abbrev pub ends_want : ℕ → Result Wish Refusal → Bool
+ends_want x (Ok Nothing) = false
+ends_want x (Err o) = false
+ends_want x (Ok (ConnectWish transaction encoding app)) = false
+ends_want x (Ok (CreateStream transaction)) = false
+ends_want x (Ok (CloseStream y)) = eqb y.0 x
+ends_want x (Ok (DeleteStream y)) = eqb y.0 x
+ends_want x (Ok (PublishWish transaction arguments)) = false
+ends_want x (Ok (PlayWish transaction arguments)) = false
+ends_want x (Ok (Metadata read)) = false
+ends_want x (Ok (PingRequest v)) = false
+ends_want x (Ok (PingResponse v)) = false
 
 abbrev pub ends : ℕ → Doing → Bool
-ends x (Wants y w) = ends_want x w.want
+ends x (Wants y w) = ends_want x w
 ends x (Shows y e) = false
 ends x Rests = false
 ends x (Accepts n) = false
@@ -72,8 +80,8 @@ is_publish Publish = true
 is_publish Play = false
 
 abbrev pub publish_on : ℕ → Option Filed → Bool
-publish_on x none = false
-publish_on x (some f) = pick (eqb f.stream x) (is_publish f.kind) false
+publish_on x None = false
+publish_on x (Some f) = pick (eqb f.stream x) (is_publish f.kind) false
 
 abbrev pub accepts_publish : ℕ → Doing → Outcome → List Told → Bool
 accepts_publish x (Wants y w) o h = false

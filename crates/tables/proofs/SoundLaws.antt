@@ -1,4 +1,4 @@
--- Refusal 15: numbers which rise are no number twice, and the steps of a loop that tests it.
+-- Refusal 15: the steps of its loops, and that numbers which rise are no number twice.
 use mathlib.Core.Path.{◌≡◌, refl, sym, ap, ◌∙◌}
 use Prim.Native.Nat.{ℕ, ◌+◌, ◌≤◌, ◌<◌}
 use native.Mathlib.Omega.{arith}
@@ -8,7 +8,7 @@ use lib.Dec.{leb, ltb}
 use lib.ListN.{length, take, drop, get_or}
 use borrow.Author.Tests.{ne_eqb, le-leb, lt-leb, lt-ltb, le-ltb, leb-true, ltb-true}
 use Rattle.text.specs.declared.names.Name.{Name}
-use Rattle.tables.specs.Tables.{has, rises_from, sound}
+use Rattle.tables.specs.Tables.{has, rises_from, sound, table_sound}
 use Rattle.tables.proofs.TablesLaws.{next_entry, no_entry}
 
 pub both : (a b : Bool) → a && b ≡ true → (a ≡ true) × (b ≡ true)
@@ -17,6 +17,26 @@ both false b e = let z : ◌≡◌ {A = Bool} false true = e in (z, let y : ◌�
 
 module _ {A : Type 0} (number : A → ℕ) (l : List A) (n : ℕ) where
   module _ (name : A → Name) (next : ℕ) where
+    -- ---- whether the rest is sound
+    module _ (i : ℕ) (r : Bool) (so : sound number name next (drop i (take n l)) ≡ r) where
+      sound_on : (d : A) → i < n → n ≤ length l → r ≡ sound number name next (get_or l i d ∷ drop (i + 1) (take n l))
+      sound_on d h g = sym so ∙ ap (sound number name next) (next_entry l n i d h g)
+
+      module _ (d : A) (h : i < n) (g : n ≤ length l) where
+        pub sound_long : 128 < (name (get_or l i d)).len → false ≡ r
+        unfolding sound
+        sound_long k = sym (sound_on d h g ∙ simp (lt-leb (name (get_or l i d)).len 128 k))
+
+        module _ (k : (name (get_or l i d)).len ≤ 128) where
+          pub sound_high : next ≤ number (get_or l i d) → false ≡ r
+          unfolding sound
+          sound_high j = sym (sound_on d h g ∙ simp (le-leb (name (get_or l i d)).len 128 k, le-ltb (number (get_or l i d)) next j))
+
+          module _ (j : number (get_or l i d) < next) (t : Bool) (e : t ≡ has number (number (get_or l i d)) (drop (i + 1) (take n l))) where
+            pub sound_twice : t ≡ true → false ≡ r
+            unfolding sound
+            sound_twice q = sym (sound_on d h g ∙ simp (le-leb (name (get_or l i d)).len 128 k, lt-ltb (number (get_or l i d)) next j, sym e ∙ q))
+
     -- ---- whether the rest rises
     module _ (i low : ℕ) (r : Bool) (so : rises_from number name next low (drop i (take n l)) ≡ r) where
       rise_on : (d : A) → i < n → n ≤ length l → r ≡ rises_from number name next low (get_or l i d ∷ drop (i + 1) (take n l))
@@ -77,3 +97,9 @@ module _ {A : Type 0} (number : A → ℕ) (name : A → Name) (next : ℕ) wher
   rises_sound low (x ∷ xs) e =
       let r = rises low x xs e in
       simp (le-leb (name x).len 128 r.short, lt-ltb (number x) next r.under, above (number x) (number x + 1) xs r.rest (omega arith), rises_sound (number x + 1) xs r.rest)
+
+  -- ---- the whole test
+  module _ (n : ℕ) (l : List A) where
+    pub too_many : length l < n → false ≡ table_sound number name next n l
+    unfolding table_sound
+    too_many h = simp (lt-leb n (length l) h)

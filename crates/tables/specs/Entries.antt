@@ -1,5 +1,5 @@
 -- The entries of the two tables: their numbers and names, and a blank one of each.
-use Rattle.std.specs.Prelude.{ℕ}
+use Rattle.std.specs.Prelude.{ℕ, []}
 use Rattle.text.specs.Names.{empty_name}
 use Rattle.text.specs.declared.names.Name.{Name}
 use Rattle.text.specs.declared.words.PublishMode.TheVariants.{Live}
@@ -25,3 +25,10 @@ request_name r = r.name
 
 abbrev pub no_request : Request
 no_request = record { id = record { 0 = 0 }; kind = Connect; stream = record { 0 = 0 }; mode = Live; transaction = 0; name = empty_name }
+
+-- what a place past the end would hold, which is never read
+abbrev pub unread_stream : Stream
+unread_stream = record { id = record { 0 = 0 }; state = Created; mode = Live; key = record { bytes = []; len = 0 } }
+
+abbrev pub unread_request : Request
+unread_request = record { id = record { 0 = 0 }; kind = Connect; stream = record { 0 = 0 }; mode = Live; transaction = 0; name = record { bytes = []; len = 0 } }

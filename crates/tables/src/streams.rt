@@ -5,7 +5,7 @@ ghost use Rattle.tables.specs.Entries.{no_stream, stream_name, stream_number};
 use crate::table::Entry;
 use text::{Name, PublishMode, StreamId, empty_name};
 
-// The Rust's states. A key stands beside its state.
+// The Rust's states. The key and the mode stand beside the state, as in the host's rows.
 #[derive(Clone, Copy, Debug, PartialEq, Eq)]
 pub enum StreamState {
     Created,

@@ -92,6 +92,7 @@ fn rises<E: Entry>(entries: &[E], next: u32) -> bool
     true
 }
 
+// Whether an entry has the number.
 fn has<E: Entry>(entries: &[E], number: u32) -> bool
     ensures { result ≡ list_any (λ e. eqb (E.number e) number) entries.now }
 {

@@ -19,14 +19,14 @@ use Rattle.text.specs.declared.words.PublishMode.{PublishMode}
 use Rattle.amf0.specs.Bodies.{place_of}
 use Rattle.amf0.specs.declared.plain.Plain.{Plain}
 use Rattle.metadata.specs.Reading.{metadata_at}
-use Rattle.wishes.specs.Commands.{command_wish, known_command, whole_command}
-use Rattle.wishes.specs.Connect.{connect_property, connect_wish, without_slash}
+use Rattle.wishes.specs.Commands.{command_wish, known_command}
+use Rattle.wishes.specs.Connect.{connect_property, without_slash}
 use Rattle.wishes.specs.Control.{control_wish, event_wish, ping_wish}
 use Rattle.wishes.specs.DataFrame.{data_wish, sets_metadata, whole_data}
 use Rattle.wishes.specs.Outcome.{Outcome}
-use Rattle.wishes.specs.Play.{play_of, play_wish}
-use Rattle.wishes.specs.Publish.{publish_of, publish_wish}
-use Rattle.wishes.specs.Streams.{close_wish, delete_wish, if_stream, stream_in}
+use Rattle.wishes.specs.Play.{play_of}
+use Rattle.wishes.specs.Publish.{publish_of}
+use Rattle.wishes.specs.Streams.{if_stream, stream_in}
 use Rattle.wishes.specs.Values.{bits_in, is_object, text_in, value_of}
 use Rattle.wishes.specs.Wish.{and_then, need, unless, whole_body}
 use Rattle.wishes.specs.declared.outcome.Refusal.{Refusal}

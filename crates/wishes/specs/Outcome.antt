@@ -1,5 +1,5 @@
 -- "Refusal numbers": what became of a call, and document 01's number of each outcome.
-use Rattle.std.specs.Prelude.{◌≡◌, ℕ, Result, Ok, Err}
+use Rattle.std.specs.Prelude.{ℕ, Result, Ok, Err}
 use Rattle.amf0.specs.declared.error.BodyError.{BodyError}
 use Rattle.amf0.specs.declared.error.BodyError.TheVariants.{NotAmf0 as BodyNotAmf0, TooDeep as BodyTooDeep}
 use Rattle.wishes.specs.declared.outcome.Refusal.{Refusal}

@@ -4,4 +4,4 @@ use Rattle.lines.proofs.events.put_frame.Goals as goal
 
 pub returns : goal.returns
 unfolding frame_text
-returns c = put_then _ _ _ _ _ c.put_finished-a.ensures (put_then _ _ _ _ _ c.put_field-b.ensures c.put_field.ensures)
+returns c = put_then _ _ _ _ _ c.put_finished-a.ensures (put_then _ _ _ _ _ (rw c.from.ensures at c.put_field-b.ensures) c.put_field.ensures)

@@ -4,4 +4,4 @@ use Rattle.lines.proofs.events.put_play.Goals as goal
 
 pub returns : goal.returns
 unfolding play_text
-returns c = put_then _ _ _ _ _ c.put_field-a.ensures (put_then _ _ _ _ _ c.put_names-b.ensures (put_then _ _ _ _ _ c.put_range-c.ensures c.put_field.ensures))
+returns c = put_then _ _ _ _ _ (rw c.from.ensures at c.put_field-a.ensures) (put_then _ _ _ _ _ c.put_names-b.ensures (put_then _ _ _ _ _ c.put_range-c.ensures (rw c.from-2.ensures at c.put_field.ensures)))
