@@ -22,7 +22,12 @@ fn put_names(out: &mut [u8], at: usize, app: Name, key: Name) -> usize
 fn put_connect(out: &mut [u8], at: usize, request: RequestId, app: Name) -> usize
     ensures { (result, out.new) ≡ put_all (connect_text request app) (at, out.old) }
 {
-    let to = put_field(out, at, b" ConnectionRequested request=", u64::from(request.0));
+    let to = put_field(
+        out,
+        at,
+        b" ConnectionRequested request=",
+        u64::from(request.0),
+    );
     put_name(out, to, b" app=", app)
 }
 
@@ -80,7 +85,12 @@ fn put_play(
 ) -> usize
     ensures { (result, out.new) ≡ put_all (play_text request app key start duration reset stream) (at, out.old) }
 {
-    let a = put_field(out, at, b" PlayStreamRequested request=", u64::from(request.0));
+    let a = put_field(
+        out,
+        at,
+        b" PlayStreamRequested request=",
+        u64::from(request.0),
+    );
     let b = put_names(out, a, app, key);
     let c = put_range(out, b, start, duration, reset);
     put_field(out, c, b" stream=", u64::from(stream.0))

@@ -1,3 +1,4 @@
+pub mod ReadingLaws
 pub mod WritingLaws
 pub mod BackTheorems
 pub mod EmptyTheorems

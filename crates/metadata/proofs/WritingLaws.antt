@@ -1,6 +1,8 @@
 -- The bytes of one property, and of several one after the other.
 use mathlib.Core.Path.{◌≡◌, refl, sym, ap, ◌∙◌, subst}
-use Prim.Native.Nat.{ℕ, ◌+◌, ◌≤◌, ◌<◌}
+use mathlib.Core.Logic.{inl, inr}
+use Prim.Native.Nat.{ℕ, zero, suc, ◌+◌, ◌≤◌, ◌<◌}
+use native.Mathlib.Nat.{eq-or-lt_of_le}
 use native.Mathlib.Omega.{arith}
 use mathlib.Core.Bool.{Bool}
 use mathlib.Core.List.{List, [], ◌∷◌, ◌++◌, map, append_assoc, append-nil}
@@ -81,6 +83,50 @@ module _ (ps : List Property) (i : ℕ) (p : Property) (m : i < length ps) where
         whole = s.whole ∙ ap (λ (l : List ℕ). over at l d) (sym pieces_on);
         count = omega (arith, h.count, s.count, length_on);
       }
+
+-- ---- the same of what is listed, by its number
+abbrev pub unlisted : Listed
+unlisted = ([], None)
+
+module _ (xs : List Listed) (i k : ℕ) (q : i ≡ k) where
+  pub nth_room : (at n : ℕ) → at + length (piece (get_or xs i unlisted)) ≤ n → at + length (piece (get_or xs k unlisted)) ≤ n
+  nth_room at n h = subst (λ (j : ℕ). at + length (piece (get_or xs j unlisted)) ≤ n) q h
+
+  pub nth_run : (d : List ℕ) (at r : ℕ) (e : List ℕ) → Run d at (piece (get_or xs k unlisted)) r e → Run d at (piece (get_or xs i unlisted)) r e
+  nth_run d at r e h = subst (λ (j : ℕ). Run d at (piece (get_or xs j unlisted)) r e) (sym q) h
+
+-- not the k-th: a later one
+pub later : (k i : ℕ) → k ≤ i → (i ≡ k → ⊥) → k + 1 ≤ i
+later k i h n = elim (eq-or-lt_of_le h) [
+  | inl e ↦ absurd (n (sym e))
+  | inr l ↦ omega arith
+]
+
+listed_on : (xs : List Listed) (i : ℕ) → pieces (take (suc i) xs) ≡ pieces (take i xs) ++ piece (get_or xs i unlisted)
+unfolding piece
+listed_on [] zero = refl
+listed_on [] (suc i) = refl
+listed_on (x ∷ xs) zero = append-nil (piece x)
+listed_on (x ∷ xs) (suc i) = ap (λ (l : List ℕ). piece x ++ l) (listed_on xs i) ∙ sym (append_assoc (piece x) (pieces (take i xs)) (piece (get_or xs i unlisted)))
+
+listed_room : (xs : List Listed) (i : ℕ) → length (pieces (take i xs)) + length (piece (get_or xs i unlisted)) ≤ length (pieces xs)
+unfolding piece
+listed_room [] zero = omega arith
+listed_room [] (suc i) = omega arith
+listed_room (x ∷ xs) zero = omega (arith, length-append (piece x) (pieces xs))
+listed_room (x ∷ xs) (suc i) = omega (arith, length-append (piece x) (pieces xs), length-append (piece x) (pieces (take i xs)), listed_room xs i)
+
+pub run_one : (xs : List Listed) (i : ℕ) (d : List ℕ) (at p : ℕ) (e : List ℕ) (r : ℕ) (f : List ℕ) → Run d at (pieces (take i xs)) p e → Run e p (piece (get_or xs i unlisted)) r f → at + length (pieces xs) ≤ length d
+    → Run d at (pieces (take (i + 1) xs)) r f
+run_one xs i d at p e r f g h n =
+    let k = length (piece (get_or xs i unlisted)) in
+    let s = run_then d at (pieces (take i xs)) p e (piece (get_or xs i unlisted)) f p k g h.whole refl refl (omega (arith, g.count, listed_room xs i)) in
+    let j : i + 1 ≡ suc i = omega arith in
+    let o : pieces (take (i + 1) xs) ≡ pieces (take i xs) ++ piece (get_or xs i unlisted) = ap (λ (m : ℕ). pieces (take m xs)) j ∙ listed_on xs i in
+    record {
+      whole = s.whole ∙ ap (λ (l : List ℕ). over at l d) (sym o);
+      count = omega (arith, h.count, s.count, ap length o);
+    }
 
 -- ---- how long the eleven are
 whole_short : (w : List ℕ) (o : Option ℕ) → length (piece (w, whole o)) ≤ 11 + length w

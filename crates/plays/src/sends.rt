@@ -6,8 +6,8 @@ ghost use Rattle.plays.specs.Plays.{bit, encoder_in, media_line, metadata_in, me
 use metadata::StreamMetadata;
 use numbers::{byte_at, double_of_single, f32_of, u16_at, u32_at, u64_at};
 use reports::{put_ping, put_sent};
-use session::Session;
 use sending::{send_audio_data, send_metadata, send_ping_request, send_video_data};
+use session::Session;
 use text::{Name, StreamId, empty_name, part_of, read_name, text_of};
 
 // "bit i: field i of document 01's list is set, bit 0 width"
@@ -40,7 +40,11 @@ fn number_in(e: &[u8], power: u16, at: usize) -> Option<u32>
     requires { 0 < power }
     ensures { result ≡ number_in e.now power at }
 {
-    if is_set(e, power) { Some(u32_at(e, at)) } else { None }
+    if is_set(e, power) {
+        Some(u32_at(e, at))
+    } else {
+        None
+    }
 }
 
 #[tactic(auto, unfolding(crate::specs::Plays::metadata_in))]
@@ -52,13 +56,25 @@ fn metadata_in(e: &[u8]) -> StreamMetadata
         video_height: number_in(e, 2, 23),
         video_codec_id: number_in(e, 4, 27),
         video_bitrate_kbps: number_in(e, 8, 31),
-        video_frame_rate: if is_set(e, 16) { Some(rate_in(e)) } else { None },
+        video_frame_rate: if is_set(e, 16) {
+            Some(rate_in(e))
+        } else {
+            None
+        },
         audio_codec_id: number_in(e, 32, 39),
         audio_bitrate_kbps: number_in(e, 64, 43),
         audio_sample_rate: number_in(e, 128, 47),
         audio_channels: number_in(e, 256, 51),
-        audio_is_stereo: if is_set(e, 512) { Some(byte_at(e, 55) == 1) } else { None },
-        encoder: if is_set(e, 1024) { Some(encoder_in(e)) } else { None },
+        audio_is_stereo: if is_set(e, 512) {
+            Some(byte_at(e, 55) == 1)
+        } else {
+            None
+        },
+        encoder: if is_set(e, 1024) {
+            Some(encoder_in(e))
+        } else {
+            None
+        },
     }
 }
 

@@ -34,6 +34,7 @@ fn bad_trace(line: &mut [u8], entry: u64) -> usize
 }
 
 // `rest` is what is left of the trace, and `entry` the number of the next one, from 1.
+#[tactic(auto, unfolding(crate::specs::Next::next_played))]
 pub fn next_entry(
     session: Session,
     rest: &[u8],
@@ -54,12 +55,10 @@ pub fn next_entry(
     }
     let taken = entry_length(rest);
     let turn = play_entry(session, text_of(rest, taken), space, line);
-    let after = turn.session;
-    let count = turn.count;
     Next {
         more: true,
-        session: after,
+        session: turn.session,
         taken,
-        count,
+        count: turn.count,
     }
 }

@@ -14,6 +14,7 @@ use session::Session;
 use spelling::put_word;
 use states::put_state;
 
+#[tactic(auto, unfolding(crate::specs::Replay::damage_played, plays::specs::Plays::turn_of))]
 fn play_damage(s: Session, e: &[u8], line: &mut [u8]) -> Turn
     ensures { (result, line.new) ≡ damage_played s e.now line.old }
 {
@@ -29,6 +30,7 @@ fn stay(session: Session, count: usize) -> Turn
     Turn { session, count }
 }
 
+#[tactic(auto, unfolding(plays::specs::Plays::turn_of))]
 fn play_kind(kind: Kind, s: Session, e: &[u8], out: &mut [u8], line: &mut [u8]) -> Turn
     ensures { (result, line.new) ≡ kind_played kind s e.now out.old line.old }
 {
@@ -55,6 +57,7 @@ fn play_filled(kind: Kind, s: Session, e: &[u8], out: &mut [u8], line: &mut [u8]
 }
 
 // The out buffer is a part of `space`, as long as the entry's room. A space that is too short plays nothing.
+#[tactic(auto, unfolding(crate::specs::Replay::played, plays::specs::Plays::turn_of))]
 pub fn play_entry(s: Session, e: &[u8], space: &mut [u8], line: &mut [u8]) -> Turn
     ensures { (result, line.new) ≡ played s e.now (length space.old) line.old }
 {

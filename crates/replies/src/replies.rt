@@ -8,8 +8,8 @@ ghost use Rattle.replies.specs.Replies.{fault_code, fault_record, fault_text, re
 
 use crate::answer::{Answer, close};
 use answers::{
-    connect_accepted, error_record, ping_response, play_accepted, play_finished,
-    publish_accepted, stream_created,
+    connect_accepted, error_record, ping_response, play_accepted, play_finished, publish_accepted,
+    stream_created,
 };
 use record::time_of;
 use session::{CommandFault, Decision, Reply, Session};

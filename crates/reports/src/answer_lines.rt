@@ -97,12 +97,7 @@ pub fn put_sent(line: &mut [u8], name: &[u8], sent: Result<usize, Refusal>, out:
 
 // "ping=N is the number that a ping request hands back"
 #[tactic(auto, using(spelling::proofs::TextLaws::put_more), unfolding(crate::specs::AnswerLine::ping_line))]
-pub fn put_ping(
-    line: &mut [u8],
-    sent: Result<usize, Refusal>,
-    timestamp: u32,
-    out: &[u8],
-) -> usize
+pub fn put_ping(line: &mut [u8], sent: Result<usize, Refusal>, timestamp: u32, out: &[u8]) -> usize
     ensures { (result, line.new) ≡ put_all (ping_line sent timestamp out.now) (0, line.old) }
 {
     match sent {

@@ -10,12 +10,18 @@ use Rattle.std.specs.Option.{ok_or}
 use Rattle.text.specs.declared.ids.StreamId.{StreamId}
 use Rattle.record.specs.Clock.{time_of}
 use Rattle.metadata.specs.declared.metadata.StreamMetadata.{StreamMetadata}
+use Rattle.answers.specs.Sending.{sent}
 use Rattle.wishes.specs.declared.outcome.Refusal.{Refusal}
 use Rattle.wishes.specs.declared.outcome.Refusal.TheVariants.{BodyTooLong, NameTooLong, NoRoom}
 use Rattle.session.specs.State.{session_sound}
 use Rattle.session.specs.declared.session.Session.{Session}
+use Rattle.sending.specs.Answers.{sending}
 use Rattle.sending.specs.Sends.{encoder_fits, media_sent, metadata_sent, ping_of, pinged, sends_ping}
 use Rattle.sending.specs.declared.sends.PingSent.{PingSent}
+
+pub sending_is : (records out : List ℕ) (r : Option ℕ) (after : List ℕ) (a : Result ℕ Refusal) → ◌≡◌ {A = Option ℕ × List ℕ} (r, after) (sent records out) → a ≡ ok_or r NoRoom → ◌≡◌ {A = Result ℕ Refusal × List ℕ} (a, after) (sending records out)
+unfolding sending
+sending_is records out r after a e k = ap (λ (x : Result ℕ Refusal). (x, after)) k ∙ ap (λ (p : Option ℕ × List ℕ). (ok_or p.0 NoRoom, p.1)) e
 
 -- ---- metadata, audio and video
 pub metadata_long : (x : StreamId) (m : StreamMetadata) (time : ℕ) (out : List ℕ) (b : Bool) → b ≡ encoder_fits m.encoder → (a : Result ℕ Refusal) → a ≡ Err NameTooLong → b ≡ false → ◌≡◌ {A = Result ℕ Refusal × List ℕ} (a, out) (metadata_sent x m time out)

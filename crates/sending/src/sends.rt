@@ -132,11 +132,7 @@ pub fn write_ping(time: u32, out: &mut [u8]) -> Result<PingSent, Refusal>
 }
 
 #[tactic(auto, unfolding(crate::specs::Sends::sends_ping))]
-pub fn send_ping_request(
-    session: Session,
-    clock: u64,
-    out: &mut [u8],
-) -> Result<PingSent, Refusal>
+pub fn send_ping_request(session: Session, clock: u64, out: &mut [u8]) -> Result<PingSent, Refusal>
     ensures { (result, out.new) ≡ sends_ping session clock out.old }
 {
     if !session_sound(session) {

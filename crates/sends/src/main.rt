@@ -6,7 +6,6 @@ mod show;
 
 ghost use Rattle.std.specs.Prelude.{◌≤◌};
 
-use answers::Sent;
 use show::show;
 use std::io;
 use std::io::Write;
@@ -18,11 +17,11 @@ fn longest(b: u8) -> Name {
 }
 
 fn word(part: &[u8]) -> Name {
-    text::read_name(part).name
+    text::read_name(part).unwrap_or(text::empty_name())
 }
 
 // One record, or its refusal, in the first `room` bytes of a buffer of A5.
-fn told<W: Write, F: FnOnce(&mut [u8]) -> Sent>(
+fn told<W: Write, F: FnOnce(&mut [u8]) -> Option<usize>>(
     output: &mut W,
     name: &[u8],
     room: usize,

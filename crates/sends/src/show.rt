@@ -1,5 +1,4 @@
 // What the program writes.
-use answers::Sent;
 use std::io;
 use std::io::Write;
 
@@ -24,17 +23,23 @@ fn kept(out: &[u8], n: usize) -> bool {
     out.iter().skip(n).all(|b| *b == 0xA5)
 }
 
-pub fn show(output: &mut impl Write, name: &[u8], sent: Sent, out: &[u8]) -> io::Result<()> {
+pub fn show(
+    output: &mut impl Write,
+    name: &[u8],
+    sent: Option<usize>,
+    out: &[u8],
+) -> io::Result<()> {
     say(output, name)?;
-    if sent.fits {
-        say(output, b" ")?;
-        number(output, sent.count as u64)?;
-        say(output, b" ")?;
-        bytes(output, out, sent.count)?;
-    } else {
-        say(output, b" none")?;
+    match sent {
+        Some(count) => {
+            say(output, b" ")?;
+            number(output, count as u64)?;
+            say(output, b" ")?;
+            bytes(output, out, count)?;
+        }
+        None => say(output, b" none")?,
     }
-    if kept(out, sent.count) {
+    if kept(out, sent.unwrap_or(0)) {
         say(output, b"\n")
     } else {
         say(output, b" spilt\n")

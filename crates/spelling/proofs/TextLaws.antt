@@ -1,10 +1,10 @@
 -- Text put behind text, and the loops over a word and over bytes.
 use mathlib.Core.Path.{◌≡◌, refl, sym, ap, ap₂, ◌∙◌}
-use Prim.Native.Nat.{ℕ, ◌+◌, ◌/◌, ◌%◌, ◌<◌}
+use Prim.Native.Nat.{ℕ, ◌+◌, ◌/◌, ◌%◌, ◌≤◌, ◌<◌}
 use native.Mathlib.Numerals.{add-one}
 use native.Mathlib.Omega.{arith}
 use mathlib.Core.List.{List, [], ◌∷◌, ◌++◌}
-use lib.ListN.{length, drop, get_or}
+use lib.ListN.{length, drop, get_or, drop_of_length-le}
 use lib.Seq.{drop-cons}
 use Rattle.std.specs.Int.{to_be_bytes, w32, w64}
 use Rattle.numbers.specs.Fields.{bytes_of}
@@ -36,7 +36,17 @@ put_then s t p q r e f = f ∙ (ap (put_all t) e ∙ sym (put_more s t p))
 pub put_as : (s t : List ℕ) (p q : Put) → q ≡ put_all s p → s ≡ t → q ≡ put_all t p
 put_as s t p q e k = e ∙ ap (λ (u : List ℕ). put_all u p) k
 
--- ---- a turn of the loop over bytes: what is left, put behind what stands, gives the whole
+-- ---- loops: what is left, put behind what stands, gives the whole
+module _ (word : List ℕ) (i : ℕ) (p w : Put) where
+  pub word_turn : (q : Put) → i < length word → q ≡ put_one (get_or word i 0) p → put_all (drop i word) p ≡ w → put_all (drop (i + 1) word) q ≡ w
+  unfolding put_all
+  word_turn q h e k = ap (put_all (drop (i + 1) word)) e ∙ (sym (rw (drop-cons word i 0 h, add-one i)) ∙ k)
+
+  pub word_end : length word ≤ i → put_all (drop i word) p ≡ w → p ≡ w
+  unfolding put_all
+  word_end h k = sym (rw (drop_of_length-le word {i = i} h)) ∙ k
+
+-- a turn of the loop over bytes
 pub hex_turn : (part : List ℕ) (i : ℕ) (p w q r : Put) (g l : ℕ) → i < length part → g ≡ glyph (get_or part i 0 / 16 % 16) → l ≡ glyph (get_or part i 0 % 16) → q ≡ put_one g p → r ≡ put_one l q → put_all (hex_of (drop i part)) p ≡ w → put_all (hex_of (drop (i + 1) part)) r ≡ w
 unfolding put_all hex_of
 hex_turn part i p w q r g l h a b e f k =

@@ -1,3 +1,4 @@
 pub mod CommandsLaws
+pub mod DecidingLaws
 pub mod RefusalTheorems
 pub mod SoundTheorems

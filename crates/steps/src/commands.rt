@@ -150,12 +150,7 @@ fn play_fault(connected: bool, fault: PlayFault) -> CommandFault
     }
 }
 
-fn play_good(
-    desk: Desk,
-    stream: StreamId,
-    transaction: u64,
-    arguments: PlayArguments,
-) -> Decision
+fn play_good(desk: Desk, stream: StreamId, transaction: u64, arguments: PlayArguments) -> Decision
     ensures { result ≡ play_good desk stream transaction arguments }
 {
     let unconnected = CommandFault::PlayUnconnected;

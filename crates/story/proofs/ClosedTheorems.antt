@@ -4,7 +4,7 @@ use Prim.Native.Nat.{ℕ}
 use mathlib.Core.Bool.{Bool, true, false, true≢false}
 use mathlib.Core.List.{List, [], ◌∷◌, ◌++◌}
 use lib.Dec.{eqb}
-use Rattle.std.specs.Prelude.{Option, Some, None, Result, Ok, Err}
+use Rattle.std.specs.Prelude.{Option, Some, None, Result, Ok}
 use Rattle.numbers.specs.Choose.{pick}
 use Rattle.numbers.proofs.ChooseLaws.{pick_elim}
 use Rattle.text.specs.declared.ids.StreamId.{StreamId}
@@ -17,8 +17,7 @@ use Rattle.tables.specs.declared.streams.StreamState.TheVariants.{Created, Publi
 use Rattle.wishes.specs.Outcome.{Outcome}
 use Rattle.wishes.specs.declared.outcome.Refusal.{Refusal}
 use Rattle.wishes.specs.declared.wish.Wish.{Wish}
-use Rattle.wishes.specs.declared.wish.Wish.TheVariants.{Nothing, CreateStream, CloseStream, DeleteStream, Metadata, PingRequest, PingResponse}
-use Rattle.wishes.specs.declared.wish.Wish.TheVariants.{Connect as ConnectWish, Publish as PublishWish, Play as PlayWish}
+use Rattle.wishes.specs.declared.wish.Wish.TheVariants.{CreateStream, CloseStream, DeleteStream}
 use Rattle.session.specs.State.{session_sound}
 use Rattle.session.specs.declared.changes.Change.{Change}
 use Rattle.session.specs.declared.decision.Decision.{Decision}
@@ -28,8 +27,8 @@ use Rattle.session.specs.declared.desk.Desk.{Desk}
 use Rattle.session.specs.declared.session.Session.{Session}
 use Rattle.streams.specs.Streams.{ended, known, on_known, on_stream}
 use Rattle.steps.specs.Deciding.{decide, decided}
-use Rattle.story.specs.Steps.{Call, Response, accept, finish, media, message, reject, send_audio, send_metadata, send_ping, send_video, step}
-use Rattle.story.specs.Doings.{Doing, Wants, Shows, Rests, Accepts, Rejects, Finishes, Sends, doing}
+use Rattle.story.specs.Steps.{Call, Response, accept, finish, media, message, reject, step}
+use Rattle.story.specs.Doings.{Doing, Wants, Shows, Accepts, Finishes, doing}
 use Rattle.story.specs.Runs.{Start, Told, after, told}
 use Rattle.story.specs.History.{Filed, Last, Creation, Closing, Deletion, PublishAccepted, Finishing, acceptance, accepting, done, effect, effect_of_want, ending, filed, joined, last_effective, stands}
 use Rattle.story.specs.Stories.{NoneAccepts, accepts_publish, ends, ends_want, frame_in, is_publish, nothing_raised, publish_on}
@@ -58,26 +57,13 @@ on_silent d f k = known_silent (known d) f k
 
 want_silent : (s : Session) (x : ℕ) (y : StreamId) (v : Result Wish Refusal) → ends_want x v ≡ true → Silent (decided s y v)
 unfolding decided decide
-want_silent s x y (Ok Nothing) q = absurd (true≢false (sym q))
-want_silent s x y (Err r) q = absurd (true≢false (sym q))
-want_silent s x y (Ok (ConnectWish t e app)) q = absurd (true≢false (sym q))
-want_silent s x y (Ok (CreateStream t)) q = absurd (true≢false (sym q))
 want_silent s x y (Ok (CloseStream z)) q = on_silent _ _ (λ e. end_silent e.state _ e.key _)
 want_silent s x y (Ok (DeleteStream z)) q = on_silent _ _ (λ e. end_silent e.state _ e.key _)
-want_silent s x y (Ok (PublishWish t a)) q = absurd (true≢false (sym q))
-want_silent s x y (Ok (PlayWish t a)) q = absurd (true≢false (sym q))
-want_silent s x y (Ok (Metadata read)) q = absurd (true≢false (sym q))
-want_silent s x y (Ok (PingRequest v)) q = absurd (true≢false (sym q))
-want_silent s x y (Ok (PingResponse v)) q = absurd (true≢false (sym q))
+want_silent s x y other q = absurd (true≢false (sym q))
 
 decides_silent : (s : Session) (x : ℕ) (g : Doing) → ends x g ≡ true → Silent (decision_at s g)
 decides_silent s x (Wants y w) q = want_silent s x y w q
-decides_silent s x (Shows y e) q = absurd (true≢false (sym q))
-decides_silent s x Rests q = absurd (true≢false (sym q))
-decides_silent s x (Accepts n) q = absurd (true≢false (sym q))
-decides_silent s x (Rejects n b) q = absurd (true≢false (sym q))
-decides_silent s x (Finishes y) q = absurd (true≢false (sym q))
-decides_silent s x (Sends y) q = absurd (true≢false (sym q))
+decides_silent s x other q = absurd (true≢false (sym q))
 
 answers_done : (x : ℕ) (c : Call) (k : Constants) (d : Decision) → ends x (doing c) ≡ true → Silent d → (answer_by k d c).outcome ≡ Ok tt
 answers_done x (message type y t clock body out) k d q z = rw (z.1, sent_nothing out) z.0
@@ -85,10 +71,7 @@ answers_done x (media kind y t) k d q z = z.0
 answers_done x (accept n clock out) k d q z = rw (z.1, sent_nothing out) z.0
 answers_done x (reject n code description clock out) k d q z = rw (z.1, sent_nothing out) z.0
 answers_done x (finish y clock out) k d q z = rw (z.1, sent_nothing out) z.0
-answers_done x (send_metadata y m clock out) k d q z = absurd (true≢false (sym q))
-answers_done x (send_audio y t droppable body out) k d q z = absurd (true≢false (sym q))
-answers_done x (send_video y t droppable body out) k d q z = absurd (true≢false (sym q))
-answers_done x (send_ping clock out) k d q z = absurd (true≢false (sym q))
+answers_done x other k d q z = absurd (true≢false (sym q))
 
 end_done : (s : Session) → session_sound s ≡ true → (x : ℕ) (c : Call) → ends x (doing c) ≡ true → (step s c).0.outcome ≡ Ok tt
 end_done s g x c q =
@@ -126,40 +109,20 @@ by_end true q new n a l = ended_off new n a l
 by_end false q new n a l = absurd (true≢false (sym q))
 
 ends_off : (x : ℕ) (v : Result Wish Refusal) (h : List Told) (a : Name) (l : Last) → ends_want x v ≡ true → joined h ≡ Some a → Off (effect_of_want x v h l)
-ends_off x (Ok Nothing) h a l q j = absurd (true≢false (sym q))
-ends_off x (Err o) h a l q j = absurd (true≢false (sym q))
-ends_off x (Ok (ConnectWish t e app)) h a l q j = absurd (true≢false (sym q))
-ends_off x (Ok (CreateStream t)) h a l q j = absurd (true≢false (sym q))
 ends_off x (Ok (CloseStream y)) h a l q j = rw j (by_end (eqb y.0 x) q Closing off_closing a l)
 ends_off x (Ok (DeleteStream y)) h a l q j = rw j (by_end (eqb y.0 x) q Deletion off_deletion a l)
-ends_off x (Ok (PublishWish t b)) h a l q j = absurd (true≢false (sym q))
-ends_off x (Ok (PlayWish t b)) h a l q j = absurd (true≢false (sym q))
-ends_off x (Ok (Metadata read)) h a l q j = absurd (true≢false (sym q))
-ends_off x (Ok (PingRequest v)) h a l q j = absurd (true≢false (sym q))
-ends_off x (Ok (PingResponse v)) h a l q j = absurd (true≢false (sym q))
+ends_off x other h a l q j = absurd (true≢false (sym q))
 
 effect_ends : (x : ℕ) (g : Doing) (h : List Told) (a : Name) (l : Last) → ends x g ≡ true → joined h ≡ Some a → Off (effect x g (Ok tt) h l)
 effect_ends x (Wants y w) h a l q j = ends_off x w h a l q j
-effect_ends x (Shows y e) h a l q j = absurd (true≢false (sym q))
-effect_ends x Rests h a l q j = absurd (true≢false (sym q))
-effect_ends x (Accepts n) h a l q j = absurd (true≢false (sym q))
-effect_ends x (Rejects n b) h a l q j = absurd (true≢false (sym q))
-effect_ends x (Finishes y) h a l q j = absurd (true≢false (sym q))
-effect_ends x (Sends y) h a l q j = absurd (true≢false (sym q))
+effect_ends x other h a l q j = absurd (true≢false (sym q))
 
 -- ---- and it stays so
 want_off : (x : ℕ) (v : Result Wish Refusal) (h : List Told) (l : Last) → Off l → Off (effect_of_want x v h l)
-want_off x (Ok Nothing) h l o = o
-want_off x (Err p) h l o = o
-want_off x (Ok (ConnectWish t e app)) h l o = o
 want_off x (Ok (CreateStream t)) h l o = pick_elim Off _ _ (eqb _ x) (λ b. off_creation) (λ b. o)
 want_off x (Ok (CloseStream y)) h l o = pick_elim Off _ _ (eqb y.0 x) (λ b. end_off Closing off_closing (joined h) l o) (λ b. o)
 want_off x (Ok (DeleteStream y)) h l o = pick_elim Off _ _ (eqb y.0 x) (λ b. end_off Deletion off_deletion (joined h) l o) (λ b. o)
-want_off x (Ok (PublishWish t a)) h l o = o
-want_off x (Ok (PlayWish t a)) h l o = o
-want_off x (Ok (Metadata read)) h l o = o
-want_off x (Ok (PingRequest v)) h l o = o
-want_off x (Ok (PingResponse v)) h l o = o
+want_off x other h l o = o
 
 kind_off : (k : RequestKind) (name : Name) (l : Last) → is_publish k ≡ false → Off l → Off (acceptance k name l)
 kind_off Connect name l n o = o
@@ -177,12 +140,9 @@ accept_off true x (Some f) l n o = ask_off (eqb f.stream x) f.kind f.name l n o
 
 effect_off : (x : ℕ) (g : Doing) (r : Outcome) (h : List Told) (l : Last) → accepts_publish x g r h ≡ false → Off l → Off (effect x g r h l)
 effect_off x (Wants y w) r h l n o = pick_elim Off _ _ (done r) (λ b. want_off x w h l o) (λ b. o)
-effect_off x (Shows y e) r h l n o = o
-effect_off x Rests r h l n o = o
 effect_off x (Accepts m) r h l n o = accept_off (done r) x (filed m.0 h) l n o
-effect_off x (Rejects m b) r h l n o = o
 effect_off x (Finishes y) r h l n o = pick_elim Off _ _ (done r) (λ b. pick_elim Off _ _ (eqb y.0 x) (λ c. off_finishing) (λ c. o)) (λ b. o)
-effect_off x (Sends y) r h l n o = o
+effect_off x other r h l n o = o
 
 still_off : (b : Start) (x : ℕ) (newer older : List Call) → NoneAccepts b x newer older → Off (last_effective x (told b older)) → Off (last_effective x (told b (newer ++ older)))
 unfolding told last_effective

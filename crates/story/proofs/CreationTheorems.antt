@@ -4,14 +4,14 @@ use Prim.Native.Nat.{ℕ, zero, suc, ◌+◌, ◌≤◌}
 use native.Mathlib.Omega.{arith}
 use mathlib.Core.List.{List, [], ◌∷◌, ◌++◌}
 use borrow.Author.Tests.{eq-eqb, ne_eqb}
-use Rattle.std.specs.Prelude.{Option, Some, Result, Ok, Err}
+use Rattle.std.specs.Prelude.{Option, Some, Result, Ok}
 use Rattle.numbers.proofs.ChooseLaws.{pick_elim}
 use Rattle.text.specs.declared.ids.StreamId.{StreamId}
 use Rattle.wishes.specs.declared.outcome.Refusal.{Refusal}
 use Rattle.wishes.specs.declared.wish.Wish.{Wish}
-use Rattle.wishes.specs.declared.wish.Wish.TheVariants.{Nothing, Connect, CreateStream, CloseStream, DeleteStream, Publish, Play, Metadata, PingRequest, PingResponse}
+use Rattle.wishes.specs.declared.wish.Wish.TheVariants.{CreateStream}
 use Rattle.session.specs.declared.session.Session.{Session}
-use Rattle.story.specs.Doings.{Doing, Wants, Shows, Rests, Accepts, Rejects, Finishes, Sends, doing}
+use Rattle.story.specs.Doings.{Doing, Wants, doing}
 use Rattle.story.specs.History.{makes}
 use Rattle.story.specs.Orders.{Accept, Act, Permuted, Plain, Premises, Reject, Tagged, creates, creating, creations_in, keep, made_by, mine, nil, owner, owner_of, owner_of_want, owns, swap, trans}
 
@@ -21,26 +21,12 @@ data Makes (n : ℕ) (o : Option ℕ) (next : ℕ) : Type 0 where
   one : n ≡ 1 → o ≡ Some next → Makes n o next
 
 want_makes : (next : ℕ) (x : StreamId) (v : Result Wish Refusal) → Makes (makes v) (owner_of_want next x v) next
-want_makes next x (Ok Nothing) = nothing refl
-want_makes next x (Err o) = nothing refl
-want_makes next x (Ok (Connect t e app)) = nothing refl
 want_makes next x (Ok (CreateStream t)) = one refl refl
-want_makes next x (Ok (CloseStream y)) = nothing refl
-want_makes next x (Ok (DeleteStream y)) = nothing refl
-want_makes next x (Ok (Publish t a)) = nothing refl
-want_makes next x (Ok (Play t a)) = nothing refl
-want_makes next x (Ok (Metadata read)) = nothing refl
-want_makes next x (Ok (PingRequest v)) = nothing refl
-want_makes next x (Ok (PingResponse v)) = nothing refl
+want_makes next x other = nothing refl
 
 doing_makes : (next : ℕ) (g : Doing) → Makes (made_by g) (owner_of next g) next
 doing_makes next (Wants x w) = want_makes next x w
-doing_makes next (Shows x e) = nothing refl
-doing_makes next Rests = nothing refl
-doing_makes next (Accepts n) = nothing refl
-doing_makes next (Rejects n b) = nothing refl
-doing_makes next (Finishes x) = nothing refl
-doing_makes next (Sends x) = nothing refl
+doing_makes next other = nothing refl
 
 act_makes : (s : Session) (older : List (Tagged Act)) (act : Act) → Makes (creates act) (owner s older act) (s.next_stream + creations_in older)
 act_makes s older (Plain c) = doing_makes _ (doing c)

@@ -31,14 +31,13 @@ use Rattle.wishes.specs.declared.wish.PlayFault.{PlayFault}
 use Rattle.wishes.specs.declared.wish.PublishArguments.{PublishArguments}
 use Rattle.wishes.specs.declared.wish.PublishFault.{PublishFault}
 use Rattle.wishes.specs.declared.wish.Wish.{Wish}
-use Rattle.wishes.specs.declared.wish.Wish.TheVariants.{Nothing, CreateStream, CloseStream, DeleteStream, Metadata, PingRequest, PingResponse}
+use Rattle.wishes.specs.declared.wish.Wish.TheVariants.{CreateStream, CloseStream, DeleteStream, Metadata}
 use Rattle.wishes.specs.declared.wish.Wish.TheVariants.{Connect as ConnectWish, Publish as PublishWish, Play as PlayWish}
 use Rattle.session.specs.Changes.{dropping, filing_connect, filing_of, granting, joining, making, no_change, removing, setting}
-use Rattle.session.specs.Decisions.{nothing, raising, refusing, refusing_with, replying}
+use Rattle.session.specs.Decisions.{nothing, raising, refusing_with, replying}
 use Rattle.session.specs.Desk.{desk_of}
 use Rattle.session.specs.State.{connected, request_of, stream_at, stream_of}
 use Rattle.session.specs.declared.changes.Change.{Change}
-use Rattle.session.specs.declared.decision.CommandFault.{CommandFault}
 use Rattle.session.specs.declared.decision.Decision.{Decision}
 use Rattle.session.specs.declared.decision.Event.{Event}
 use Rattle.session.specs.declared.decision.Reply.{Reply}
@@ -47,7 +46,7 @@ use Rattle.session.specs.declared.session.Session.{Session}
 use Rattle.streams.specs.Streams.{create_stream, created, described, ended, frame_of, on_known, on_stream, shown, shown_found}
 use Rattle.streams.specs.declared.streams.Frame.{Frame}
 use Rattle.steps.specs.Commands.{asked, on_asked, on_room, play, publish, request_room}
-use Rattle.steps.specs.Deciding.{decide, decided, subject_of}
+use Rattle.steps.specs.Deciding.{decide, decided}
 use Rattle.decisions.specs.Answers.{accept_request, accepted, completed, finish_playing, finished, finished_on, granted, playing, publishing, reject_request, rejected, settled, stream_stands}
 use Rattle.story.specs.Doings.{Doing, Wants, Shows, Rests, Accepts, Rejects, Finishes, Sends}
 use Rattle.story.specs.Runs.{Told}
@@ -80,26 +79,17 @@ Not15 o = eqb (number_of o) 15 ≡ false
 
 -- ---- nothing changed: what is known then
 abbrev pub StillWant : Session → Result Wish Refusal → Outcome → Type 0
-StillWant s (Ok Nothing) o = Unit {0}
-StillWant s (Err p) o = Unit {0}
-StillWant s (Ok (ConnectWish transaction encoding app)) o = Unit {0}
 StillWant s (Ok (CreateStream transaction)) o = (done o ≡ false) × (for_room (number_of o) ≡ true)
 StillWant s (Ok (CloseStream y)) o = done o ≡ true → connected s ≡ true → stream_of s y.0 ≡ None
 StillWant s (Ok (DeleteStream y)) o = done o ≡ true → connected s ≡ true → stream_of s y.0 ≡ None
-StillWant s (Ok (PublishWish transaction arguments)) o = Unit {0}
-StillWant s (Ok (PlayWish transaction arguments)) o = Unit {0}
-StillWant s (Ok (Metadata read)) o = Unit {0}
-StillWant s (Ok (PingRequest v)) o = Unit {0}
-StillWant s (Ok (PingResponse v)) o = Unit {0}
+StillWant s other o = Unit {0}
 
 abbrev pub Still : Session → Doing → Decision → Type 0
 Still s (Wants x w) d = StillWant s w d.outcome
-Still s (Shows x e) d = Unit {0}
-Still s Rests d = Unit {0}
 Still s (Accepts n) d = (done d.outcome ≡ false) × (eqb (number_of d.outcome) 11 ≡ false)
 Still s (Rejects n short) d = done d.outcome ≡ false
 Still s (Finishes x) d = done d.outcome ≡ false
-Still s (Sends x) d = Unit {0}
+Still s other d = Unit {0}
 
 -- ---- a request was filed: its number is the next one, and there was room
 pub record Next (s : Session) (r : Request) : Type 0 where
@@ -208,16 +198,13 @@ module _ (s : Session) (y : StreamId) (w : Result Wish Refusal) where
   end Completed app key c = record { outcome = refl; files = refl; change = refl }
 
   describe : (st : StreamState) (app key : Name) (read : Result StreamMetadata LongEncoder) → w ≡ Ok (Metadata read) → Does (described st app key read)
-  describe Created app key read q = quiet _ refl refl refl (rw q tt)
   describe Publishing app key (Ok m) q = quiet _ refl refl refl (rw q tt)
   describe Publishing app key (Err e) q = quiet _ refl refl refl (rw q tt)
-  describe Playing app key read q = quiet _ refl refl refl (rw q tt)
-  describe Completed app key read q = quiet _ refl refl refl (rw q tt)
+  describe other app key read q = quiet _ refl refl refl (rw q tt)
 
   -- ---- every want
   wants : (v : Result Wish Refusal) → w ≡ v → Readable v → Does (decided s y v)
   unfolding decided decide desk_of
-  wants (Ok Nothing) q k = quiet _ refl refl refl (rw q tt)
   wants (Ok (ConnectWish t encoding app)) q k =
       file y app _ (λ o. rw q tt)
       (λ n e h j. connects refl (record { makes_none = rw q; effectless = λ z h old. rw q }) (record { number = refl; more = h; place = j }) (q, refl))
@@ -229,9 +216,8 @@ module _ (s : Session) (y : StreamId) (w : Result Wish Refusal) where
   wants (Ok (PublishWish t a)) q k = publishes t a q y
   wants (Ok (PlayWish t a)) q k = plays t a q y
   wants (Ok (Metadata read)) q k = on_stream_lem y _ Does (λ n. quiet _ refl refl refl (rw q tt)) (λ e c f. describe e.state _ _ read q)
-  wants (Ok (PingRequest v)) q k = quiet _ refl refl refl (rw q tt)
-  wants (Ok (PingResponse v)) q k = quiet _ refl refl refl (rw q tt)
   wants (Err r) q k = quiet _ refl k refl (rw q tt)
+  wants other q k = quiet _ refl refl refl (rw q tt)
 
 -- ---- the application's decisions
 module _ (s : Session) where
@@ -257,10 +243,8 @@ module _ (s : Session) where
   reject n false (Some r) e = still _ _ refl refl refl refl
 
   end_play : (x : StreamId) (e : Stream) → stream_of s x.0 ≡ Some e → (st : StreamState) → Did s (Finishes x) (finished st x e)
-  end_play x e f Created = still _ _ refl refl refl refl
-  end_play x e f Publishing = still _ _ refl refl refl refl
   end_play x e f Playing = completes f
-  end_play x e f Completed = still _ _ refl refl refl refl
+  end_play x e f other = still _ _ refl refl refl refl
 
   finish : (x : StreamId) (o : Option Stream) → stream_of s x.0 ≡ o → Did s (Finishes x) (finish_playing o x)
   unfolding finish_playing
@@ -271,11 +255,7 @@ module _ (s : Session) where
   abbrev pub ReadableIn : Doing → Type 0
   ReadableIn (Wants x w) = Readable w
   ReadableIn (Shows x e) = request_in (Some e) ≡ None
-  ReadableIn Rests = Unit {0}
-  ReadableIn (Accepts n) = Unit {0}
-  ReadableIn (Rejects n short) = Unit {0}
-  ReadableIn (Finishes x) = Unit {0}
-  ReadableIn (Sends x) = Unit {0}
+  ReadableIn other = Unit {0}
 
   module _ (x : StreamId) (e : Event) (k : request_in (Some e) ≡ None) where
     abbrev Frames : Option Frame → Type 0
@@ -285,10 +265,8 @@ module _ (s : Session) where
     no_frame = still _ _ refl refl refl tt
 
     state_shows : (st : StreamState) (app key : Name) → Frames (shown st e app key)
-    state_shows Created app key = no_frame
     state_shows Publishing app key = still _ _ refl refl k tt
-    state_shows Playing app key = no_frame
-    state_shows Completed app key = no_frame
+    state_shows other app key = no_frame
 
     found_shows : (o : Option Stream) (app : Name) → Frames (option_and_then (shown_found e app) o)
     found_shows None app = no_frame

@@ -1,12 +1,12 @@
 -- A session's tables are what its history tells: one law for each word of the history, by the cases of a decision.
 use mathlib.Core.Path.{◌≡◌, refl, sym, ap, ◌∙◌}
-use Prim.Native.Nat.{ℕ, ◌+◌, ◌-◌, ◌≤◌, ◌<◌}
+use Prim.Native.Nat.{ℕ, ◌+◌, ◌≤◌, ◌<◌}
 use native.Mathlib.Omega.{arith}
 use mathlib.Core.Bool.{Bool, true, false}
 use mathlib.Core.List.{List}
 use lib.Dec.{eqb}
 use borrow.Author.Tests.{eq-eqb, ne_eqb}
-use Rattle.std.specs.Prelude.{Option, Some, None, Result, Ok, Err}
+use Rattle.std.specs.Prelude.{Option, Some, None, Result, Ok}
 use Rattle.numbers.specs.Choose.{pick}
 use Rattle.numbers.proofs.ChooseLaws.{pick_elim, pick_eq}
 use Rattle.text.specs.Names.{empty_name}
@@ -21,23 +21,22 @@ use Rattle.tables.specs.declared.streams.StreamState.TheVariants.{Created, Publi
 use Rattle.wishes.specs.Outcome.{Outcome}
 use Rattle.wishes.specs.declared.outcome.Refusal.{Refusal}
 use Rattle.wishes.specs.declared.wish.Wish.{Wish}
-use Rattle.wishes.specs.declared.wish.Wish.TheVariants.{Nothing, CreateStream, CloseStream, DeleteStream, Metadata, PingRequest, PingResponse}
-use Rattle.wishes.specs.declared.wish.Wish.TheVariants.{Connect as ConnectWish, Publish as PublishWish, Play as PlayWish}
+use Rattle.wishes.specs.declared.wish.Wish.TheVariants.{CreateStream, CloseStream, DeleteStream}
 use Rattle.session.specs.Changes.{applied}
 use Rattle.session.specs.State.{connected, request_of, stream_of, with_changed, with_request, with_stream, without_request, without_stream}
 use Rattle.session.specs.declared.decision.Decision.{Decision}
 use Rattle.session.specs.declared.decision.Event.{Event}
-use Rattle.session.specs.declared.decision.Event.TheVariants.{ConnectionRequested, PublishStreamRequested, PlayStreamRequested, PublishStreamFinished, PlayStreamFinished, StreamMetadataChanged, AudioDataReceived, VideoDataReceived, PingResponseReceived}
+use Rattle.session.specs.declared.decision.Event.TheVariants.{ConnectionRequested, PublishStreamRequested, PlayStreamRequested}
 use Rattle.session.specs.declared.session.Session.{Session}
 use Rattle.streams.specs.Streams.{created}
 use Rattle.decisions.specs.Answers.{completed, playing, publishing}
-use Rattle.story.specs.Doings.{Doing, Wants, Shows, Rests, Accepts, Rejects, Finishes, Sends}
+use Rattle.story.specs.Doings.{Doing, Wants, Accepts, Rejects, Finishes}
 use Rattle.story.specs.Runs.{Told}
 use Rattle.story.specs.History.{Filed, Last, Never, Creation, Closing, Deletion, PublishAccepted, PlayAccepted, Finishing, acceptance, creation, creations, decided, decides, decisions, done, effect, effect_of_want, ending, filed, filed_by, filing, filings, is_it, joined_by, joining_kind, last_effective, makes, numbered, one_for, stands, waiting}
 use Rattle.story.specs.History.{joined as joined_in}
 use Rattle.story.specs.Stories.{as_filed, asked}
 use Rattle.story.specs.Orders.{request_in}
-use Rattle.story.proofs.LookLaws.{not_none, same_or}
+use Rattle.story.proofs.LookLaws.{same_or}
 use Rattle.story.proofs.SessionLaws.{Good, dropped_count, dropped_other, dropped_same, filed_other, filed_same, made_other, made_same, next_count, next_number, removed_other, removed_same, request_below, request_number_lem, set_other, set_same, stream_number_lem}
 use Rattle.story.proofs.DecisionLaws.{Did, Next, Still, StillWant, becomes, closed, completes, connects, deleted, files, grants, joined, made, missed, rejects, still}
 use Rattle.story.proofs.StepLaws.{heard}
@@ -69,88 +68,48 @@ pub record Follows (s : Session) (h : List Told) : Type 0 where
 
 -- an event with no request's number files nothing
 pub unfiled : (x : StreamId) (e : Option Event) (app key : Name) → request_in e ≡ None → filed_by x e app key ≡ None
-unfiled x None app key k = refl
-unfiled x (Some (ConnectionRequested n)) app key k = absurd (not_none _ _ refl k)
-unfiled x (Some (PublishStreamRequested n mode)) app key k = absurd (not_none _ _ refl k)
-unfiled x (Some (PlayStreamRequested n start duration reset y)) app key k = absurd (not_none _ _ refl k)
-unfiled x (Some PublishStreamFinished) app key k = refl
-unfiled x (Some PlayStreamFinished) app key k = refl
-unfiled x (Some StreamMetadataChanged) app key k = refl
-unfiled x (Some (AudioDataReceived t)) app key k = refl
-unfiled x (Some (VideoDataReceived t)) app key k = refl
-unfiled x (Some (PingResponseReceived t)) app key k = refl
+unfiled x (Some (ConnectionRequested n)) app key k = absurd cc
+unfiled x (Some (PublishStreamRequested n mode)) app key k = absurd cc
+unfiled x (Some (PlayStreamRequested n start duration reset y)) app key k = absurd cc
+unfiled x other app key k = refl
 
 -- and one that files has the request's number
 pub filed_number : (x : StreamId) (e : Option Event) (app key : Name) (f : Filed) → filed_by x e app key ≡ Some f → request_in e ≡ Some f.number
-filed_number x None app key f k = absurd (not_none _ _ k refl)
 filed_number x (Some (ConnectionRequested n)) app key f k = let q : record { number = n.0; kind = Connect; stream = 0; name = app } ≡ f = cc in ap Some (ap (λ (z : Filed). z.number) q)
 filed_number x (Some (PublishStreamRequested n mode)) app key f k = let q : record { number = n.0; kind = Publish; stream = x.0; name = key } ≡ f = cc in ap Some (ap (λ (z : Filed). z.number) q)
 filed_number x (Some (PlayStreamRequested n start duration reset y)) app key f k = let q : record { number = n.0; kind = Play; stream = y.0; name = key } ≡ f = cc in ap Some (ap (λ (z : Filed). z.number) q)
-filed_number x (Some PublishStreamFinished) app key f k = absurd (not_none _ _ k refl)
-filed_number x (Some PlayStreamFinished) app key f k = absurd (not_none _ _ k refl)
-filed_number x (Some StreamMetadataChanged) app key f k = absurd (not_none _ _ k refl)
-filed_number x (Some (AudioDataReceived t)) app key f k = absurd (not_none _ _ k refl)
-filed_number x (Some (VideoDataReceived t)) app key f k = absurd (not_none _ _ k refl)
-filed_number x (Some (PingResponseReceived t)) app key f k = absurd (not_none _ _ k refl)
+filed_number x other app key f k = absurd cc
 
 -- ---- a step that changed nothing is told as nothing
 module _ (s : Session) (d : Decision) where
   pub still_files : (g : Doing) → request_in d.event ≡ None → (n t : ℕ) (out : List ℕ) → filing g (heard d n t out) ≡ None
   still_files (Wants x w) k n t out = unfiled x d.event d.app d.key k
-  still_files (Shows x e) k n t out = refl
-  still_files Rests k n t out = refl
-  still_files (Accepts m) k n t out = refl
-  still_files (Rejects m b) k n t out = refl
-  still_files (Finishes x) k n t out = refl
-  still_files (Sends x) k n t out = refl
+  still_files other k n t out = refl
 
   pub still_decides : (g : Doing) → Still s g d → decides g d.outcome ≡ None
-  still_decides (Wants x w) k = refl
-  still_decides (Shows x e) k = refl
-  still_decides Rests k = refl
   still_decides (Accepts m) k = rw (k.0, k.1)
   still_decides (Rejects m b) k = rw k
-  still_decides (Finishes x) k = refl
-  still_decides (Sends x) k = refl
+  still_decides other k = refl
 
   still_joins : (g : Doing) → Still s g d → (h : List Told) (old : Option Name) → joined_by g d.outcome h old ≡ old
-  still_joins (Wants x w) k h old = refl
-  still_joins (Shows x e) k h old = refl
-  still_joins Rests k h old = refl
   still_joins (Accepts m) k h old = rw k.0
-  still_joins (Rejects m b) k h old = refl
-  still_joins (Finishes x) k h old = refl
-  still_joins (Sends x) k h old = refl
+  still_joins other k h old = refl
 
   none_made : (b : Bool) → ◌≡◌ {A = ℕ} (pick b 0 0) 0
   none_made true = refl
   none_made false = refl
 
   still_want : (v : Result Wish Refusal) (o : Outcome) → StillWant s v o → pick (done o) (makes v) 0 ≡ 0
-  still_want (Ok Nothing) o k = none_made (done o)
-  still_want (Err p) o k = none_made (done o)
-  still_want (Ok (ConnectWish t e app)) o k = none_made (done o)
   still_want (Ok (CreateStream t)) o k = rw k.0
-  still_want (Ok (CloseStream y)) o k = none_made (done o)
-  still_want (Ok (DeleteStream y)) o k = none_made (done o)
-  still_want (Ok (PublishWish t a)) o k = none_made (done o)
-  still_want (Ok (PlayWish t a)) o k = none_made (done o)
-  still_want (Ok (Metadata read)) o k = none_made (done o)
-  still_want (Ok (PingRequest v)) o k = none_made (done o)
-  still_want (Ok (PingResponse v)) o k = none_made (done o)
+  still_want other o k = none_made (done o)
 
   still_makes : (g : Doing) → Still s g d → creation g d.outcome ≡ 0
   still_makes (Wants x w) k = still_want w d.outcome k
-  still_makes (Shows x e) k = refl
-  still_makes Rests k = refl
-  still_makes (Accepts m) k = refl
-  still_makes (Rejects m b) k = refl
-  still_makes (Finishes x) k = refl
-  still_makes (Sends x) k = refl
+  still_makes other k = refl
 
 -- ---- requests
 found_filed : (b : Bool) (o : Option Filed) (f : Filed) → pick b None o ≡ Some f → o ≡ Some f
-found_filed true o f e = absurd (not_none _ _ e refl)
+found_filed true o f e = absurd cc
 found_filed false o f e = e
 
 -- what waits was filed
@@ -189,37 +148,29 @@ module _ (s : Session) (g : Good s) (h : List Told) (v : Follows s h) where
 -- ---- streams
 stands_none : (l : Last) → state_of l ≡ None → stands l ≡ false
 stands_none Never e = refl
-stands_none Creation e = absurd (not_none _ _ refl e)
-stands_none Closing e = absurd (not_none _ _ refl e)
 stands_none Deletion e = refl
-stands_none (PublishAccepted key) e = absurd (not_none _ _ refl e)
-stands_none (PlayAccepted key) e = absurd (not_none _ _ refl e)
-stands_none Finishing e = absurd (not_none _ _ refl e)
+stands_none other e = absurd cc
 
 stands_some : (l : Last) (v : StreamState × Name) → state_of l ≡ Some v → stands l ≡ true
-stands_some Never v e = absurd (not_none _ _ e refl)
-stands_some Creation v e = refl
-stands_some Closing v e = refl
-stands_some Deletion v e = absurd (not_none _ _ e refl)
-stands_some (PublishAccepted key) v e = refl
-stands_some (PlayAccepted key) v e = refl
-stands_some Finishing v e = refl
+stands_some Never v e = absurd cc
+stands_some Deletion v e = absurd cc
+stands_some other v e = refl
 
 pub linked_on : (b : Bool) (app a : Name) → pick b (Some app) None ≡ Some a → b ≡ true
 linked_on true app a e = refl
-linked_on false app a e = absurd (not_none _ _ e refl)
+linked_on false app a e = absurd cc
 
 end_none : (new : Last) (j : Option Name) (old : Last) → ((a : Name) → j ≡ Some a → stands old ≡ false) → ending new j old ≡ old
 end_none new None old k = refl
 end_none new (Some a) old k = rw (k a refl)
 
 pub kind_state : (k : RequestKind) (r : Request) (a : Stream) (old : Last) → becomes k r ≡ Some a → (a.id.0 ≡ r.stream.0) × (state_of (acceptance k r.name old) ≡ Some (a.state, a.key))
-kind_state Connect r a old e = absurd (not_none _ _ e refl)
+kind_state Connect r a old e = absurd cc
 kind_state Publish r a old e = let q : publishing r ≡ a = cc in rw (← q) (refl, refl)
 kind_state Play r a old e = let q : playing r ≡ a = cc in rw (← q) (refl, refl)
 
 kind_joins : (k : RequestKind) (r : Request) (a : Stream) (old : Option Name) → becomes k r ≡ Some a → joining_kind k r.name old ≡ old
-kind_joins Connect r a old e = absurd (not_none _ _ e refl)
+kind_joins Connect r a old e = absurd cc
 kind_joins Publish r a old e = refl
 kind_joins Play r a old e = refl
 
@@ -243,26 +194,16 @@ module _ (s : Session) (g : Good s) (h : List Told) (v : Follows s h) (x : ℕ) 
   same_pick false = v.agrees x
 
   still_wanted : (w : Result Wish Refusal) (o : Outcome) → StillWant s w o → standing (stream_of s x) ≡ state_of (pick (done o) (effect_of_want x w h (last_effective x h)) (last_effective x h))
-  still_wanted (Ok Nothing) o k = same_pick (done o)
-  still_wanted (Err p) o k = same_pick (done o)
-  still_wanted (Ok (ConnectWish t e app)) o k = same_pick (done o)
   still_wanted (Ok (CreateStream t)) o k = rw k.0 (v.agrees x)
   still_wanted (Ok (CloseStream y)) o k = still_ends Closing y.0 o k
   still_wanted (Ok (DeleteStream y)) o k = still_ends Deletion y.0 o k
-  still_wanted (Ok (PublishWish t a)) o k = same_pick (done o)
-  still_wanted (Ok (PlayWish t a)) o k = same_pick (done o)
-  still_wanted (Ok (Metadata read)) o k = same_pick (done o)
-  still_wanted (Ok (PingRequest z)) o k = same_pick (done o)
-  still_wanted (Ok (PingResponse z)) o k = same_pick (done o)
+  still_wanted other o k = same_pick (done o)
 
   still_agrees : (d : Decision) (k : Doing) → Still s k d → standing (stream_of s x) ≡ state_of (effect x k d.outcome h (last_effective x h))
   still_agrees d (Wants y w) i = still_wanted w d.outcome i
-  still_agrees d (Shows y e) i = v.agrees x
-  still_agrees d Rests i = v.agrees x
   still_agrees d (Accepts n) i = rw i.0 (v.agrees x)
-  still_agrees d (Rejects n b) i = v.agrees x
   still_agrees d (Finishes y) i = rw i (v.agrees x)
-  still_agrees d (Sends y) i = v.agrees x
+  still_agrees d other i = v.agrees x
 
   -- a stream of number y is now e
   set_agrees : (e old : Stream) (y : ℕ) (new : Last) → e.id.0 ≡ y → stream_of s y ≡ Some old → (y ≡ x → state_of new ≡ Some (e.state, e.key))
@@ -307,16 +248,11 @@ module _ (s : Session) (g : Good s) (h : List Told) (v : Follows s h) where
   pub did_links : {k : Doing} {d : Decision} → Did s k d → link (applied s d.change) ≡ joined_by k d.outcome h (joined_in h)
   unfolding applied connected with_stream with_changed without_stream with_request without_request
   did_links (still k d c n f i) = rw c (v.links ∙ sym (still_joins s d k i h (joined_in h)))
-  did_links (made q m k) = v.links
-  did_links (files f i k a) = v.links
-  did_links (connects f i k a) = v.links
   did_links (closed q c f k) = rw k.change v.links
   did_links (deleted q c f k) = rw k.change v.links
-  did_links (completes f) = v.links
   did_links (joined {n = n} {r = r} f k) = rw (waits_filed s h v n.0 r f, k)
   did_links (grants {n = n} {r = r} {a = a} f k o) = rw (waits_filed s h v n.0 r f) (v.links ∙ sym (kind_joins r.kind r a (joined_in h) k))
-  did_links (missed f k o) = v.links
-  did_links (rejects f) = v.links
+  did_links other = v.links
 
   pub did_waits : {k : Doing} {d : Decision} → Did s k d → (c t : ℕ) (out : List ℕ) (n : ℕ)
       → asked (request_of (applied s d.change) n) ≡ pick (is_it n (decides k d.outcome) (decided n h)) None (numbered n (filing k (heard d c t out)) (filed n h))
@@ -355,11 +291,7 @@ module _ (s : Session) (g : Good s) (h : List Told) (v : Follows s h) where
   did_makes (connects f i k a) = let u = v.makes_next in rw i.makes_none (omega arith)
   did_makes (closed q c f k) = let u = v.makes_next in rw (k.change, k.outcome, q) (omega arith)
   did_makes (deleted q c f k) = let u = v.makes_next in rw (k.change, k.outcome, q) (omega arith)
-  did_makes (completes f) = let u = v.makes_next in omega arith
-  did_makes (joined f k) = let u = v.makes_next in omega arith
-  did_makes (grants f k o) = let u = v.makes_next in omega arith
-  did_makes (missed f k o) = let u = v.makes_next in omega arith
-  did_makes (rejects f) = let u = v.makes_next in omega arith
+  did_makes other = let u = v.makes_next in omega arith
 
   pub did_counts : {k : Doing} {d : Decision} → Did s k d → (c t : ℕ) (out : List ℕ)
       → filings h + one_for (filing k (heard d c t out)) ≡ decisions h + one_for (decides k d.outcome) + (applied s d.change).request_count

@@ -1,6 +1,6 @@
 -- Every step of a good session leaves a good one.
 use mathlib.Core.Path.{◌≡◌, ap, ◌∙◌}
-use Prim.Native.Nat.{ℕ, ◌-◌}
+use Prim.Native.Nat.{ℕ}
 use mathlib.Core.Bool.{true}
 use lib.ListN.{length}
 use Rattle.std.specs.Prelude.{Some}
@@ -11,7 +11,7 @@ use Rattle.session.specs.State.{request_of, session_sound, stream_of, with_chang
 use Rattle.session.specs.declared.decision.Decision.{Decision}
 use Rattle.session.specs.declared.session.Session.{Session}
 use Rattle.calls.proofs.SoundTheorems.{accept_sound, finish_sound, message_sound, reject_sound}
-use Rattle.story.specs.Steps.{Call, Response, accept, finish, media, message, reject, send_audio, send_metadata, send_ping, send_video, step}
+use Rattle.story.specs.Steps.{Call, Response, accept, finish, message, reject, step}
 use Rattle.story.specs.Doings.{Doing}
 use Rattle.story.proofs.SessionLaws.{Good, dropped_places, filed_places, made_places, removed_places, request_number_lem, set_places, stream_number_lem}
 use Rattle.story.proofs.DecisionLaws.{Did, closed, completes, connects, deleted, files, grants, joined, made, missed, rejects, still}
@@ -47,14 +47,10 @@ took_places (took d n t out k) h = places_kept k h
 step_sound : (s : Session) → Good s → (c : Call) → session_sound (step s c).1 ≡ true
 unfolding step
 step_sound s h (message type x timestamp clock body out) = message_sound s h.sound h.stream_places h.request_places type x timestamp clock body out
-step_sound s h (media kind x timestamp) = h.sound
 step_sound s h (accept n clock out) = accept_sound s h.sound h.stream_places h.request_places n clock out
 step_sound s h (reject n code description clock out) = reject_sound s h.sound h.stream_places h.request_places n code description clock out
 step_sound s h (finish x clock out) = finish_sound s h.sound h.stream_places h.request_places x clock out
-step_sound s h (send_metadata x m clock out) = h.sound
-step_sound s h (send_audio x timestamp droppable body out) = h.sound
-step_sound s h (send_video x timestamp droppable body out) = h.sound
-step_sound s h (send_ping clock out) = h.sound
+step_sound s h other = h.sound
 
 pub step_good : (s : Session) → Good s → (c : Call) → Good (step s c).1
 step_good s h c = let p = took_places (step_took s h.sound c) h in record { sound = step_sound s h c; stream_places = p.0; request_places = p.1 }

@@ -18,7 +18,7 @@ use Rattle.tables.proofs.KeptTheorems.{length_change, length_remove}
 use Rattle.tables.proofs.TablesLaws.{look_no, look_past, look_yes}
 
 pub not_none : {A : Type 0} (o : Option A) (a : A) → o ≡ Some a → o ≡ None → ⊥
-not_none o a p q = let z : ◌≡◌ {A = ℕ} 0 1 = cc in omega arith
+not_none o a p q = cc
 
 pub same_found : {A : Type 0} (o : Option A) (a b : A) → o ≡ Some a → o ≡ Some b → a ≡ b
 same_found o a b p q = cc
@@ -42,7 +42,7 @@ module _ {A : Type 0} (number : A → ℕ) where
   -- ---- a change
   pub look_change_same : (y old : A) (l : List A) → look number (number y) l ≡ Some old → look number (number y) (change number y l) ≡ Some y
   unfolding look change
-  look_change_same y old [] h = absurd (not_none _ _ h refl)
+  look_change_same y old [] h = absurd cc
   look_change_same y old (x ∷ xs) h =
       pick_eq (λ (r : List A). look number (number y) r ≡ Some y) (y ∷ xs) (x ∷ change number y xs) (number x) (number y)
       (λ q. look_yes number (number y) y xs refl)
@@ -98,7 +98,7 @@ module _ {A : Type 0} (number : A → ℕ) where
 
     pub look_below : (id : ℕ) (l : List A) (e : A) → sound number name next l ≡ true → look number id l ≡ Some e → id < next
     unfolding look
-    look_below id [] e h f = absurd (not_none _ _ f refl)
+    look_below id [] e h f = absurd cc
     look_below id (x ∷ xs) e h f =
         let s = head x xs h in
         pick_eq (λ (o : Option A). o ≡ Some e → id < next) (Some x) (look number id xs) (number x) id

@@ -25,14 +25,13 @@ use Rattle.wishes.specs.declared.wish.PlayFault.{PlayFault}
 use Rattle.wishes.specs.declared.wish.PublishArguments.{PublishArguments}
 use Rattle.wishes.specs.declared.wish.PublishFault.{PublishFault}
 use Rattle.wishes.specs.declared.wish.Wish.{Wish}
-use Rattle.wishes.specs.declared.wish.Wish.TheVariants.{Nothing, CreateStream, CloseStream, DeleteStream, Metadata, PingRequest, PingResponse}
+use Rattle.wishes.specs.declared.wish.Wish.TheVariants.{CreateStream, CloseStream, DeleteStream, Metadata}
 use Rattle.wishes.specs.declared.wish.Wish.TheVariants.{Connect as ConnectWish, Publish as PublishWish, Play as PlayWish}
 use Rattle.session.specs.Changes.{applied}
 use Rattle.session.specs.Decisions.{nothing, refusing}
 use Rattle.session.specs.State.{connected, request_of, stream_of, with_changed, with_request, with_stream, without_request, without_stream}
 use Rattle.session.specs.declared.changes.Effect.{Effect}
-use Rattle.session.specs.declared.changes.Effect.TheVariants.{StreamMade, StreamSet, StreamRemoved, RequestFiled, ConnectFiled, ConnectAccepted, StreamAccepted, RequestRemoved}
-use Rattle.session.specs.declared.changes.Effect.TheVariants.{Nothing as NoEffect}
+use Rattle.session.specs.declared.changes.Effect.TheVariants.{StreamMade, StreamSet, StreamRemoved, StreamAccepted}
 use Rattle.session.specs.declared.decision.Decision.{Decision}
 use Rattle.session.specs.declared.decision.Event.{Event}
 use Rattle.session.specs.declared.decision.Event.TheVariants.{ConnectionRequested, PublishStreamRequested, PlayStreamRequested, PublishStreamFinished, PlayStreamFinished, StreamMetadataChanged, AudioDataReceived, VideoDataReceived, PingResponseReceived}
@@ -44,7 +43,7 @@ use Rattle.steps.specs.Commands.{asked, on_asked, play, publish, request_room}
 use Rattle.steps.specs.Deciding.{decide}
 use Rattle.decisions.specs.Answers.{accept_request, completed, finish_playing, granted, reject_request, rejection}
 use Rattle.replies.specs.Replies.{short}
-use Rattle.story.specs.Steps.{Call, Response, accept, finish, media, message, reject, send_audio, send_metadata, send_ping, send_video}
+use Rattle.story.specs.Steps.{Call, Response, accept, finish, media, message, reject}
 use Rattle.story.specs.Doings.{Doing, Wants, Shows, Rests, Accepts, Rejects, Finishes, Sends, doing}
 use Rattle.story.specs.History.{Never, makes}
 use Rattle.story.specs.Orders.{Act, Accept, ConnectlessWant, Plain, Reject, Tagged, ask_at, doing_ask, for_room, made_by, owner_of_want, owns, plain, plain_event, request_in, stream_in, unnumbered, waiting_ask}
@@ -71,11 +70,8 @@ decide_read d x (Err r) = refusing r
 abbrev pub desk_decision : Desk → Doing → Decision
 desk_decision d (Wants y w) = decide_read d y w
 desk_decision d (Shows y e) = shown_as (frame_seen d e)
-desk_decision d Rests = nothing
-desk_decision d (Accepts n) = nothing
-desk_decision d (Rejects n short) = nothing
 desk_decision d (Finishes y) = finish_playing d.seen y
-desk_decision d (Sends y) = nothing
+desk_decision d other = nothing
 
 -- own: the steps of this stream before this one
 abbrev pub own_decision : Session → ℕ → Option Stream → List (Tagged Act) → Act → Decision
@@ -94,15 +90,11 @@ own_answer s x o own act = plain (answer_by (constants_of s) (own_decision s x o
 
 -- what a change makes of the stream that it is about
 abbrev pub stream_after : Effect → Stream → Option Stream → Option Stream
-stream_after NoEffect e o = o
 stream_after StreamMade e o = Some e
 stream_after StreamSet e o = Some e
 stream_after StreamRemoved e o = None
-stream_after RequestFiled e o = o
-stream_after (ConnectFiled encoding) e o = o
-stream_after ConnectAccepted e o = o
 stream_after StreamAccepted e o = Some e
-stream_after RequestRemoved e o = o
+stream_after other e o = o
 
 abbrev pub own_stream : Decision → Option Stream → Option Stream
 own_stream d o = stream_after d.change.effect d.change.stream o
@@ -123,17 +115,11 @@ bare d =
 
 -- ---- the desk in the session and the machine's desk
 abbrev pub Meets : Desk → ℕ → Option Stream → Result Wish Refusal → Type 0
-Meets d x o (Ok Nothing) = Unit {0}
-Meets d x o (Err p) = Unit {0}
-Meets d x o (Ok (ConnectWish t e app)) = Unit {0}
 Meets d x o (Ok (CreateStream t)) = d.next_stream ≡ x
 Meets d x o (Ok (CloseStream y)) = d.seen ≡ o
 Meets d x o (Ok (DeleteStream y)) = d.seen ≡ o
-Meets d x o (Ok (PublishWish t a)) = Unit {0}
-Meets d x o (Ok (PlayWish t a)) = Unit {0}
 Meets d x o (Ok (Metadata read)) = d.seen ≡ o
-Meets d x o (Ok (PingRequest v)) = Unit {0}
-Meets d x o (Ok (PingResponse v)) = Unit {0}
+Meets d x o other = Unit {0}
 
 -- the same decision, if it is not refused for room, of two answers to whether a name may be filed
 abbrev AskedAlike : (Name → Decision) → (Name → Decision) → Result Name Refusal → Result Name Refusal → Type 0
@@ -173,7 +159,6 @@ module _ (d : Desk) (app : Name) (x : ℕ) (o : Option Stream) (on : d.connected
   pub want_alike : (v : Result Wish Refusal) → ConnectlessWant v → Meets d x o v → (y : StreamId) → for_room (number_of (decide_read d y v).outcome) ≡ false
       → bare (decide_read d y v) ≡ bare (decide_read (desk_for app x o) y v)
   unfolding decide on_stream
-  want_alike (Ok Nothing) n k y h = refl
   want_alike (Ok (ConnectWish t e name)) n k y h = absurd n
   want_alike (Ok (CreateStream t)) n k y h = make_alike t k h
   want_alike (Ok (CloseStream z)) n k y h = rw (on, here, k)
@@ -181,9 +166,7 @@ module _ (d : Desk) (app : Name) (x : ℕ) (o : Option Stream) (on : d.connected
   want_alike (Ok (PublishWish t a)) n k y h = publish_alike y t a h
   want_alike (Ok (PlayWish t a)) n k y h = play_alike y t a h
   want_alike (Ok (Metadata read)) n k y h = rw (on, here, k)
-  want_alike (Ok (PingRequest v)) n k y h = refl
-  want_alike (Ok (PingResponse v)) n k y h = refl
-  want_alike (Err p) n k y h = refl
+  want_alike other n k y h = refl
 
 -- ---- a decision of a request, its number apart
 module _ (q : Request) where
@@ -240,10 +223,7 @@ answer_bare k d (media kind x timestamp) = heard_bare d 0 0 []
 answer_bare k d (accept n clock out) = written_bare k d [] [] clock out
 answer_bare k d (reject n code description clock out) = written_bare k d code description clock out
 answer_bare k d (finish x clock out) = written_bare k d [] [] clock out
-answer_bare k d (send_metadata x m clock out) = refl
-answer_bare k d (send_audio x timestamp droppable body out) = refl
-answer_bare k d (send_video x timestamp droppable body out) = refl
-answer_bare k d (send_ping clock out) = refl
+answer_bare k d other = refl
 
 pub answers_alike : (k : Constants) (d e : Decision) (c : Call) → bare d ≡ bare e → plain (answer_by k d c) ≡ plain (answer_by k e c)
 answers_alike k d e c q = answer_bare k d c ∙ ap (λ (z : Decision). plain (answer_by k z c)) q ∙ sym (answer_bare k e c)
@@ -296,49 +276,26 @@ module _ (s : Session) (h : Good s) where
   -- ---- what stays where there is no connect business
   abbrev pub Calm : Doing → Type 0
   Calm (Wants x w) = ConnectlessWant w
-  Calm (Shows x e) = Unit {0}
-  Calm Rests = Unit {0}
   Calm (Accepts n) = (r : Request) → request_of s n.0 ≡ Some r → r.kind ≡ Connect → ⊥
-  Calm (Rejects n b) = Unit {0}
-  Calm (Finishes x) = Unit {0}
-  Calm (Sends x) = Unit {0}
+  Calm other = Unit {0}
 
   pub did_same : {g : Doing} {d : Decision} → Did s g d → Calm g
       → (constants_of (applied s d.change) ≡ constants_of s) × ((applied s d.change).app ≡ s.app) × (connected (applied s d.change) ≡ connected s)
   unfolding applied connected with_stream with_changed without_stream with_request without_request
   did_same (still g d c n f k) z = rw c (refl, refl, refl)
-  did_same (made q m k) z = (refl, refl, refl)
-  did_same (files f i k a) z = (refl, refl, refl)
   did_same (connects f i k a) z = absurd (rw a.0 at z)
   did_same (closed q c f k) z = rw k.change (refl, refl, refl)
   did_same (deleted q c f k) z = rw k.change (refl, refl, refl)
-  did_same (completes f) z = (refl, refl, refl)
   did_same (joined {r = r} f k) z = absurd (z r f k)
-  did_same (grants f k p) z = (refl, refl, refl)
-  did_same (missed f k p) z = (refl, refl, refl)
-  did_same (rejects f) z = (refl, refl, refl)
+  did_same other z = (refl, refl, refl)
 
   want_born : (v : Result Wish Refusal) (o : Outcome) → StillWant s v o → for_room (number_of o) ≡ false → makes v ≡ 0
-  want_born (Ok Nothing) o k r = refl
-  want_born (Err p) o k r = refl
-  want_born (Ok (ConnectWish t e app)) o k r = refl
   want_born (Ok (CreateStream t)) o k r = absurd (true≢false (sym k.1 ∙ r))
-  want_born (Ok (CloseStream y)) o k r = refl
-  want_born (Ok (DeleteStream y)) o k r = refl
-  want_born (Ok (PublishWish t a)) o k r = refl
-  want_born (Ok (PlayWish t a)) o k r = refl
-  want_born (Ok (Metadata read)) o k r = refl
-  want_born (Ok (PingRequest v)) o k r = refl
-  want_born (Ok (PingResponse v)) o k r = refl
+  want_born other o k r = refl
 
   still_born : (g : Doing) (d : Decision) → Still s g d → for_room (number_of d.outcome) ≡ false → made_by g ≡ 0
   still_born (Wants x w) d k r = want_born w d.outcome k r
-  still_born (Shows x e) d k r = refl
-  still_born Rests d k r = refl
-  still_born (Accepts n) d k r = refl
-  still_born (Rejects n b) d k r = refl
-  still_born (Finishes x) d k r = refl
-  still_born (Sends x) d k r = refl
+  still_born other d k r = refl
 
   pub did_births : {g : Doing} {d : Decision} → Did s g d → for_room (number_of d.outcome) ≡ false → (applied s d.change).next_stream ≡ s.next_stream + made_by g
   unfolding applied with_stream with_changed without_stream with_request without_request
@@ -348,11 +305,7 @@ module _ (s : Session) (h : Good s) where
   did_births (connects f i k a) r = rw i.makes_none (omega arith)
   did_births (closed q c f k) r = rw (k.change, q) (omega arith)
   did_births (deleted q c f k) r = rw (k.change, q) (omega arith)
-  did_births (completes f) r = omega arith
-  did_births (joined f k) r = omega arith
-  did_births (grants f k p) r = omega arith
-  did_births (missed f k p) r = omega arith
-  did_births (rejects f) r = omega arith
+  did_births other r = omega arith
 
   -- ---- requests: an older number that is found was there before
   drop_back : (m : ℕ) (r : Request) → request_of s m ≡ Some r → (n : ℕ) (q : Request) → request_of (without_request s r.id.0) n ≡ Some q → request_of s n ≡ Some q
@@ -379,16 +332,11 @@ module _ (s : Session) (h : Good s) where
   pub did_next : {g : Doing} {d : Decision} → Did s g d → s.next_request ≤ (applied s d.change).next_request
   unfolding applied with_stream with_changed without_stream with_request without_request
   did_next (still g d c n f k) = rw c (omega arith)
-  did_next (made q m k) = omega arith
   did_next (files f i k a) = rw (next_number s.next_request k.more) (omega arith)
   did_next (connects f i k a) = rw (next_number s.next_request k.more) (omega arith)
   did_next (closed q c f k) = rw k.change (omega arith)
   did_next (deleted q c f k) = rw k.change (omega arith)
-  did_next (completes f) = omega arith
-  did_next (joined f k) = omega arith
-  did_next (grants f k p) = omega arith
-  did_next (missed f k p) = omega arith
-  did_next (rejects f) = omega arith
+  did_next other = omega arith
 
   filed_next : (r : Request) → Next s r → (with_request s r).next_request ≡ s.next_request + 1
   unfolding with_request
@@ -399,7 +347,6 @@ module _ (s : Session) (h : Good s) where
       → (n < (applied s d.change).next_request) × ((q : Request) → request_of (applied s d.change) n ≡ Some q → doing_ask g ≡ Some (unnumbered q))
   unfolding applied
   did_files (still g d c n f k) z m e = absurd (not_none _ _ e f)
-  did_files (made q m k) z n e = absurd (not_none _ _ e refl)
   did_files (files {y = y} {event = event} {app = app} {key = key} {r = r} f i k a) z n e =
       let u : r.id.0 ≡ n = same_found _ _ _ (filed_number y (Some event) app key (as_filed r) f) e in
       let v = k.number in
@@ -407,8 +354,4 @@ module _ (s : Session) (h : Good s) where
   did_files (connects f i k a) z n e = absurd (rw a.0 at z)
   did_files (closed q c f k) z n e = absurd (not_none _ _ e k.files)
   did_files (deleted q c f k) z n e = absurd (not_none _ _ e k.files)
-  did_files (completes f) z n e = absurd (not_none _ _ e refl)
-  did_files (joined f k) z n e = absurd (not_none _ _ e refl)
-  did_files (grants f k p) z n e = absurd (not_none _ _ e refl)
-  did_files (missed f k p) z n e = absurd (not_none _ _ e refl)
-  did_files (rejects f) z n e = absurd (not_none _ _ e refl)
+  did_files other z n e = absurd cc

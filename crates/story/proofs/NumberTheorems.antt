@@ -15,21 +15,21 @@ use Rattle.session.specs.State.{connected, request_of, stream_of}
 use Rattle.session.specs.declared.decision.Decision.{Decision}
 use Rattle.session.specs.declared.session.Session.{Session}
 use Rattle.story.specs.Steps.{Call, Response, step}
-use Rattle.story.specs.Doings.{Doing, Wants, Shows, Rests, Accepts, Rejects, Finishes, Sends, doing}
+use Rattle.story.specs.Doings.{Doing, Accepts, doing}
 use Rattle.story.specs.Runs.{Start, Told, after, told}
 use Rattle.story.specs.History.{Filed, creations, decided, done, filed, filing, joined_by, joining_kind}
 use Rattle.story.specs.History.{joined as joined_in, joining as joining_by}
 use Rattle.story.specs.Stories.{asked}
 use Rattle.story.proofs.LookLaws.{not_none, same_found}
 use Rattle.story.proofs.SessionLaws.{Good, request_below, stream_absent}
-use Rattle.story.proofs.DecisionLaws.{Did, closed, completes, connects, deleted, files, grants, joined, made, missed, rejects, still}
+use Rattle.story.proofs.DecisionLaws.{Did, closed, connects, deleted, files, still}
 use Rattle.story.proofs.StepLaws.{Took, heard, step_took, took}
 use Rattle.story.proofs.FollowLaws.{Follows, linked_on, still_files, unfiled}
 use Rattle.story.proofs.RunLaws.{follows, good_after}
 
 -- ---- requests
 asked_some : (o : Option Request) (f : Filed) → asked o ≡ Some f → (r : Request) × (o ≡ Some r)
-asked_some None f e = absurd (not_none _ _ e refl)
+asked_some None f e = absurd cc
 asked_some (Some r) f e = (r, refl)
 
 module _ (s : Session) (g : Good s) (h : List Told) (v : Follows s h) where
@@ -47,16 +47,11 @@ module _ (s : Session) (g : Good s) (h : List Told) (v : Follows s h) where
   -- and the one that is given is the next one
   did_gives : {k : Doing} {d : Decision} → Did s k d → (c t : ℕ) (out : List ℕ) (f : Filed) → filing k (heard d c t out) ≡ Some f → f.number ≡ s.next_request
   did_gives (still k d c n u i) m t out f e = absurd (not_none _ _ e (still_files s d k u m t out))
-  did_gives (made q m k) c t out f e = absurd (not_none _ _ e refl)
   did_gives (files {r = r} u i k a) c t out f e = ap (λ (z : Filed). z.number) (sym (same_found _ _ _ u e)) ∙ k.number
   did_gives (connects {r = r} u i k a) c t out f e = ap (λ (z : Filed). z.number) (sym (same_found _ _ _ u e)) ∙ k.number
   did_gives (closed {y = y} {d = d} q c u k) m t out f e = absurd (not_none _ _ e (unfiled y d.event d.app d.key k.files))
   did_gives (deleted {y = y} {d = d} q c u k) m t out f e = absurd (not_none _ _ e (unfiled y d.event d.app d.key k.files))
-  did_gives (completes u) c t out f e = absurd (not_none _ _ e refl)
-  did_gives (joined u k) c t out f e = absurd (not_none _ _ e refl)
-  did_gives (grants u k o) c t out f e = absurd (not_none _ _ e refl)
-  did_gives (missed u k o) c t out f e = absurd (not_none _ _ e refl)
-  did_gives (rejects u) c t out f e = absurd (not_none _ _ e refl)
+  did_gives other c t out f e = absurd cc
 
 took_gives : {s : Session} {k : Doing} {a : Response} {t : Session} → Took s k a t → Good s → (h : List Told) → Follows s h → (f : Filed) → filing k a ≡ Some f → f.number ≡ s.next_request
 took_gives {s} (took d n t out k) g h v = did_gives s g h v k n t out
@@ -93,13 +88,8 @@ ask_stays true None j p = p
 ask_stays true (Some f) j p = kind_stays f.kind f.name j p
 
 joins_stay : (g : Doing) (o : Outcome) (h : List Told) (j : Option Name) → Given j → Given (joined_by g o h j)
-joins_stay (Wants x w) o h j p = p
-joins_stay (Shows x e) o h j p = p
-joins_stay Rests o h j p = p
 joins_stay (Accepts n) o h j p = ask_stays (done o) (filed n.0 h) j p
-joins_stay (Rejects n short) o h j p = p
-joins_stay (Finishes x) o h j p = p
-joins_stay (Sends x) o h j p = p
+joins_stay other o h j p = p
 
 stays : (b : Start) (newer older : List Call) → Given (joined_in (told b older)) → Given (joined_in (told b (newer ++ older)))
 unfolding told joined_in

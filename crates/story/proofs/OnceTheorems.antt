@@ -25,7 +25,7 @@ use Rattle.story.specs.Runs.{Start, Told, after, told}
 use Rattle.story.specs.History.{Filed, decided, decides, decisions, filed, filings, hits, is_it, times_decided, waiting}
 use Rattle.story.specs.Stories.{as_filed, asked}
 use Rattle.story.proofs.LookLaws.{not_none, same_found, same_or}
-use Rattle.story.proofs.DecisionLaws.{Did, Not15, closed, completes, connects, deleted, files, grants, joined, made, missed, rejects, still}
+use Rattle.story.proofs.DecisionLaws.{Did, Not15, closed, deleted, grants, joined, missed, rejects, still}
 use Rattle.story.proofs.StepLaws.{Took, sent_nothing, step_took, took}
 use Rattle.story.proofs.FollowLaws.{Follows, still_decides}
 use Rattle.story.proofs.RunLaws.{follows, good_after}
@@ -39,7 +39,7 @@ filed_is_decided_and_waiting b cs = ((follows b cs).counts, (follows b cs).waits
 -- ---- a request that was decided
 asked_none : (o : Option Request) → asked o ≡ None → o ≡ None
 asked_none None e = refl
-asked_none (Some r) e = absurd (not_none _ _ refl e)
+asked_none (Some r) e = absurd cc
 
 pub gone : (b : Start) (cs : List Call) (n : ℕ) → decided n (told b cs) ≡ true → request_of (after b cs) n ≡ None
 gone b cs n d = asked_none _ ((follows b cs).waits n ∙ rw d)
@@ -64,7 +64,7 @@ never_accepted_twice b cs n d clock out =
 
 -- ---- what a step decides was not decided before
 undone : (b : Bool) (o : Option Filed) (f : Filed) → pick b None o ≡ Some f → b ≡ false
-undone true o f e = absurd (not_none _ _ e refl)
+undone true o f e = absurd cc
 undone false o f e = refl
 
 module _ (s : Session) (h : List Told) (v : Follows s h) where
@@ -73,16 +73,11 @@ module _ (s : Session) (h : List Told) (v : Follows s h) where
 
   did_undecided : {k : Doing} {d : Decision} → Did s k d → (m : ℕ) → decides k d.outcome ≡ Some m → decided m h ≡ false
   did_undecided (still k d c n f i) m e = absurd (not_none _ _ e (still_decides s d k i))
-  did_undecided (made q p k) m e = absurd (not_none _ _ e refl)
-  did_undecided (files f i k a) m e = absurd (not_none _ _ e refl)
-  did_undecided (connects f i k a) m e = absurd (not_none _ _ e refl)
-  did_undecided (closed q c f k) m e = absurd (not_none _ _ e refl)
-  did_undecided (deleted q c f k) m e = absurd (not_none _ _ e refl)
-  did_undecided (completes f) m e = absurd (not_none _ _ e refl)
   did_undecided (joined {n = n} {r = r} f k) m e = found_undecided n r f m e
   did_undecided (grants {n = n} {r = r} f k o) m e = found_undecided n r f m e
   did_undecided (missed {n = n} {r = r} f k o) m e = found_undecided n r f m e
   did_undecided (rejects {n = n} {r = r} f) m e = found_undecided n r f m e
+  did_undecided other m e = absurd cc
 
 took_undecided : {s : Session} {k : Doing} {a : Response} {t : Session} → Took s k a t → (h : List Told) → Follows s h → (m : ℕ) → decides k a.outcome ≡ Some m → decided m h ≡ false
 took_undecided {s} (took d n t out k) h v = did_undecided s h v k
@@ -105,16 +100,9 @@ decided_once b (c ∷ cs) n =
 -- ---- 15
 never_15 : {s : Session} {g : Doing} {d : Decision} → Did s g d → Not15 d.outcome
 never_15 (still g d c n f k) = n
-never_15 (made q m k) = refl
-never_15 (files f i k a) = refl
-never_15 (connects f i k a) = refl
 never_15 (closed q c f k) = rw k.outcome
 never_15 (deleted q c f k) = rw k.outcome
-never_15 (completes f) = refl
-never_15 (joined f k) = refl
-never_15 (grants f k o) = refl
-never_15 (missed f k o) = refl
-never_15 (rejects f) = refl
+never_15 other = refl
 
 took_not_15 : {s : Session} {g : Doing} {a : Response} {t : Session} → Took s g a t → Not15 a.outcome
 took_not_15 (took d n t out k) = never_15 k

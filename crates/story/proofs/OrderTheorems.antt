@@ -1,6 +1,6 @@
 -- Demand 3, the second half: two runs with the same further steps, each stream's in the same order, give each step the same answer and end alike.
 use mathlib.Core.Path.{◌≡◌, refl, sym, ap, ◌∙◌}
-use Prim.Native.Nat.{ℕ, ◌+◌}
+use Prim.Native.Nat.{ℕ}
 use mathlib.Core.Bool.{true}
 use mathlib.Core.List.{List, [], ◌∷◌, ◌++◌}
 use lib.Dec.{eqb}
@@ -68,7 +68,7 @@ absent_reply s x t (p ∷ older) h =
 -- what x's own replies say of a tag is the answer to that tag
 settled : (s : Session) (x t : ℕ) (a : Response) (l : List (Tagged Act)) → Once l → under t (replies_of s x l) ≡ Some a → plain_answer (under t (go s l).1) ≡ Some a
 unfolding under replies_of go
-settled s x t a [] d h = absurd (not_none _ _ h refl)
+settled s x t a [] d h = absurd cc
 settled s x t a (p ∷ older) d h =
     same_or p.tag t (plain_answer (under t (answered s p older ∷ (go s older).1)) ≡ Some a)
     (λ e. ap plain_answer (under_here t (answered s p older) (go s older).1 e)

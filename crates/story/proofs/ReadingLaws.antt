@@ -10,7 +10,7 @@ use Rattle.numbers.specs.Choose.{pick}
 use Rattle.numbers.specs.Fields.{field_at}
 use Rattle.text.specs.Words.{command_of, text}
 use Rattle.text.specs.declared.words.Command.{Command}
-use Rattle.text.specs.declared.words.Command.TheVariants.{Connect, CreateStream, CloseStream, DeleteStream, Publish, Play, Other}
+use Rattle.text.specs.declared.words.Command.TheVariants.{Connect}
 use Rattle.amf0.specs.Bodies.{checked}
 use Rattle.amf0.specs.declared.error.BodyError.{BodyError}
 use Rattle.amf0.specs.declared.error.BodyError.TheVariants.{NotAmf0, TooDeep}
@@ -61,12 +61,7 @@ connects s t = other_wise (is_object (value_of s 2)) _ _ refl (given (text_in s 
 
 known : (s : List ℕ) (t : ℕ) (c : Command) → Readable (known_command s t c)
 known s t Connect = connects s t
-known s t CreateStream = tt
-known s t CloseStream = tt
-known s t DeleteStream = tt
-known s t Publish = tt
-known s t Play = tt
-known s t Other = tt
+known s t rest = tt
 
 begun : (s : List ℕ) → Readable (whole_command s)
 begun s =

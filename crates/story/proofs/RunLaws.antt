@@ -1,17 +1,15 @@
 -- Every run from a start: its session is good, and follows what was told.
 use mathlib.Core.Path.{◌≡◌, refl}
 use Prim.Native.Nat.{ℕ}
-use mathlib.Core.Bool.{Bool, true, false}
 use mathlib.Core.List.{List, [], ◌∷◌}
 use lib.ListN.{length}
 use Rattle.std.specs.Prelude.{Option, Some, None}
-use Rattle.numbers.specs.Choose.{pick}
 use Rattle.numbers.proofs.ChooseLaws.{pick_elim}
 use Rattle.text.specs.Names.{empty_name, name_of}
 use Rattle.text.specs.declared.names.Name.{Name}
 use Rattle.record.specs.Records.{start_records}
 use Rattle.answers.specs.Sending.{sent}
-use Rattle.tables.specs.Tables.{look, sound}
+use Rattle.tables.specs.Tables.{look}
 use Rattle.session.specs.State.{connected, fresh_session}
 use Rattle.session.specs.declared.session.Session.{Session}
 use Rattle.replies.specs.declared.answer.Answer.{Answer}

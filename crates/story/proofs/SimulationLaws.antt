@@ -2,9 +2,10 @@
 use mathlib.Core.Path.{◌≡◌, refl, sym, ap, ap₂, ◌∙◌}
 use Prim.Native.Nat.{ℕ, ◌+◌, ◌≤◌, ◌<◌}
 use native.Mathlib.Omega.{arith}
-use mathlib.Core.Bool.{Bool, true, false}
+use mathlib.Core.Bool.{true, false}
 use mathlib.Core.List.{List, [], ◌∷◌}
 use borrow.Author.Tests.{eq-eqb, ne_eqb}
+use Rattle.std.specs.Option.{unwrap_or}
 use Rattle.std.specs.Prelude.{Option, Some, None, Result, Ok, Err, is_some}
 use Rattle.numbers.specs.Choose.{pick}
 use Rattle.numbers.proofs.ChooseLaws.{pick_elim}
@@ -22,8 +23,8 @@ use Rattle.wishes.specs.declared.wish.PlayFault.{PlayFault}
 use Rattle.wishes.specs.declared.wish.PublishArguments.{PublishArguments}
 use Rattle.wishes.specs.declared.wish.PublishFault.{PublishFault}
 use Rattle.wishes.specs.declared.wish.Wish.{Wish}
-use Rattle.wishes.specs.declared.wish.Wish.TheVariants.{Nothing, CreateStream, CloseStream, DeleteStream, Metadata, PingRequest, PingResponse}
-use Rattle.wishes.specs.declared.wish.Wish.TheVariants.{Connect as ConnectWish, Publish as PublishWish, Play as PlayWish}
+use Rattle.wishes.specs.declared.wish.Wish.TheVariants.{CreateStream, CloseStream, DeleteStream, Metadata}
+use Rattle.wishes.specs.declared.wish.Wish.TheVariants.{Publish as PublishWish, Play as PlayWish}
 use Rattle.session.specs.Changes.{applied}
 use Rattle.session.specs.Desk.{desk_of}
 use Rattle.session.specs.State.{connected, request_of, stream_of}
@@ -31,14 +32,14 @@ use Rattle.session.specs.declared.decision.Decision.{Decision}
 use Rattle.session.specs.declared.decision.Event.{Event}
 use Rattle.session.specs.declared.desk.Desk.{Desk}
 use Rattle.session.specs.declared.session.Session.{Session}
-use Rattle.streams.specs.Streams.{frame_of, shown_found}
+use Rattle.streams.specs.Streams.{frame_of}
 use Rattle.streams.specs.declared.streams.Frame.{Frame}
-use Rattle.steps.specs.Deciding.{decide, decided, subject_of}
+use Rattle.steps.specs.Deciding.{decided, subject_of}
 use Rattle.sending.specs.declared.sends.PingSent.{PingSent}
 use Rattle.replies.specs.Replies.{short}
-use Rattle.story.specs.Steps.{Call, Response, accept, finish, media, message, pinged_as, reject, send_audio, send_metadata, send_ping, send_video, sent_as, step}
-use Rattle.story.specs.Doings.{Doing, Wants, Shows, Rests, Accepts, Rejects, Finishes, Sends, doing}
-use Rattle.story.specs.Orders.{Accept, Act, By, Connectless, Each, Finds, HasRoom, Log, NoConnect, Old, Plain, Ref, Reject, Tagged, act_ask, answer_to, ask_at, call_of, creates, creations_in, doing_ask, for_room, go, made_by, mine, number_in, or_else, owner, owner_of, owner_of_want, owns, plain, play_ask, publish_ask, request_in, resolve, stream_in, under, unnumbered, waiting_ask, want_ask}
+use Rattle.story.specs.Steps.{Call, Response, accept, finish, media, message, pinged_as, reject, send_ping, sent_as, step}
+use Rattle.story.specs.Doings.{Doing, Wants, Shows, Accepts, Rejects, doing}
+use Rattle.story.specs.Orders.{Accept, Act, By, Connectless, Each, Finds, HasRoom, Log, NoConnect, Old, Plain, Ref, Reject, Tagged, act_ask, answer_to, ask_at, call_of, creates, creations_in, doing_ask, for_room, go, made_by, mine, number_in, owner, owner_of, owner_of_want, owns, plain, play_ask, publish_ask, request_in, resolve, stream_in, under, unnumbered, waiting_ask, want_ask}
 use Rattle.story.proofs.LookLaws.{not_none, same_found, same_or}
 use Rattle.story.proofs.SessionLaws.{Good, request_absent, request_below}
 use Rattle.story.proofs.DecisionLaws.{Did, decision_at, shown_as}
@@ -120,38 +121,25 @@ module _ (s : Session) (p : Tagged Act) (older : List (Tagged Act)) where
 -- ---- a filing step of x is among x's own
 publish_owner : (x : StreamId) (a : Result PublishArguments PublishFault) (q : Request) → publish_ask x a ≡ Some q → Some x.0 ≡ Some q.stream.0
 publish_owner x (Ok a) q h = ap stream_in h
-publish_owner x (Err f) q h = absurd (not_none _ _ h refl)
+publish_owner x (Err f) q h = absurd cc
 
 play_owner : (x : StreamId) (a : Result PlayArguments PlayFault) (q : Request) → play_ask x a ≡ Some q → Some x.0 ≡ Some q.stream.0
 play_owner x (Ok a) q h = ap stream_in h
-play_owner x (Err f) q h = absurd (not_none _ _ h refl)
+play_owner x (Err f) q h = absurd cc
 
 want_owner : (next : ℕ) (x : StreamId) (v : Result Wish Refusal) (q : Request) → want_ask x v ≡ Some q → owner_of_want next x v ≡ Some q.stream.0
-want_owner next x (Ok Nothing) q h = absurd (not_none _ _ h refl)
-want_owner next x (Ok (ConnectWish t e app)) q h = absurd (not_none _ _ h refl)
-want_owner next x (Ok (CreateStream t)) q h = absurd (not_none _ _ h refl)
-want_owner next x (Ok (CloseStream y)) q h = absurd (not_none _ _ h refl)
-want_owner next x (Ok (DeleteStream y)) q h = absurd (not_none _ _ h refl)
 want_owner next x (Ok (PublishWish t a)) q h = publish_owner x a q h
 want_owner next x (Ok (PlayWish t a)) q h = play_owner x a q h
-want_owner next x (Ok (Metadata read)) q h = absurd (not_none _ _ h refl)
-want_owner next x (Ok (PingRequest v)) q h = absurd (not_none _ _ h refl)
-want_owner next x (Ok (PingResponse v)) q h = absurd (not_none _ _ h refl)
-want_owner next x (Err r) q h = absurd (not_none _ _ h refl)
+want_owner next x other q h = absurd cc
 
 doing_owner : (next : ℕ) (g : Doing) (q : Request) → doing_ask g ≡ Some q → owner_of next g ≡ Some q.stream.0
 doing_owner next (Wants x w) q h = want_owner next x w q h
-doing_owner next (Shows x e) q h = absurd (not_none _ _ h refl)
-doing_owner next Rests q h = absurd (not_none _ _ h refl)
-doing_owner next (Accepts n) q h = absurd (not_none _ _ h refl)
-doing_owner next (Rejects n b) q h = absurd (not_none _ _ h refl)
-doing_owner next (Finishes x) q h = absurd (not_none _ _ h refl)
-doing_owner next (Sends x) q h = absurd (not_none _ _ h refl)
+doing_owner next other q h = absurd cc
 
 asks_owner : (s : Session) (older : List (Tagged Act)) (act : Act) (q : Request) → act_ask (Some act) ≡ Some q → owner s older act ≡ Some q.stream.0
 asks_owner s older (Plain c) q h = doing_owner _ (doing c) q h
-asks_owner s older (Accept r clock out) q h = absurd (not_none _ _ h refl)
-asks_owner s older (Reject r code description clock out) q h = absurd (not_none _ _ h refl)
+asks_owner s older (Accept r clock out) q h = absurd cc
+asks_owner s older (Reject r code description clock out) q h = absurd cc
 
 mine_look : (s : Session) (t : ℕ) (q : Request) (l : List (Tagged Act)) → act_ask (under t l) ≡ Some q → under t (mine s q.stream.0 l) ≡ under t l
 unfolding mine
@@ -184,16 +172,11 @@ own_desk z app o = desk_for app (seat o) (stands_at z o)
 
 meets : (z : Session) (v : Wish) (y : StreamId) → Meets (desk_of z (subject_of v y)) (seat (owner_of_want z.next_stream y (Ok v))) (stands_at z (owner_of_want z.next_stream y (Ok v))) (Ok v)
 unfolding desk_of
-meets z Nothing y = tt
-meets z (ConnectWish t e app) y = tt
 meets z (CreateStream t) y = refl
 meets z (CloseStream u) y = refl
 meets z (DeleteStream u) y = refl
-meets z (PublishWish t a) y = tt
-meets z (PlayWish t a) y = tt
 meets z (Metadata read) y = refl
-meets z (PingRequest v) y = tt
-meets z (PingResponse v) y = tt
+meets z other y = tt
 
 module _ (z : Session) (app : Name) (on : connected z ≡ true) (here : z.app ≡ app) where
   frame_alike : (y : StreamId) (e : Event) → frame_of z y e ≡ frame_seen (own_desk z app (Some y.0)) e
@@ -203,31 +186,21 @@ module _ (z : Session) (app : Name) (on : connected z ≡ true) (here : z.app �
   plain_alike : (g : Doing) → Connectless g → for_room (number_of (decision_at z g).outcome) ≡ false → bare (decision_at z g) ≡ bare (desk_decision (own_desk z app (owner_of z.next_stream g)) g)
   unfolding decided desk_of
   plain_alike (Wants y (Ok w)) n h = want_alike (desk_of z (subject_of w y)) app _ _ on here (Ok w) n (meets z w y) y h
-  plain_alike (Wants y (Err r)) n h = refl
   plain_alike (Shows y e) n h = ap (λ (f : Option Frame). bare (shown_as f)) (frame_alike y e)
-  plain_alike Rests n h = refl
   plain_alike (Accepts m) n h = absurd n
   plain_alike (Rejects m b) n h = absurd n
-  plain_alike (Finishes y) n h = refl
-  plain_alike (Sends y) n h = refl
+  plain_alike other n h = refl
 
 plain_calm : (z : Session) (h : Good z) (g : Doing) → Connectless g → Calm z h g
 plain_calm z h (Wants x w) n = n
-plain_calm z h (Shows x e) n = tt
-plain_calm z h Rests n = tt
 plain_calm z h (Accepts m) n = absurd n
 plain_calm z h (Rejects m b) n = absurd n
-plain_calm z h (Finishes x) n = tt
-plain_calm z h (Sends x) n = tt
+plain_calm z h other n = tt
 
 plain_owner : (z : Session) (g : Doing) → Connectless g → owner_in z g ≡ owner_of z.next_stream g
-plain_owner z (Wants x w) n = refl
-plain_owner z (Shows x e) n = refl
-plain_owner z Rests n = refl
 plain_owner z (Accepts m) n = absurd n
 plain_owner z (Rejects m b) n = absurd n
-plain_owner z (Finishes x) n = refl
-plain_owner z (Sends x) n = refl
+plain_owner z other n = refl
 
 -- ---- a decision that is not answered 10 found a request
 accept_found : (z : Session) → Good z → (n : RequestId) (clock : ℕ) (out : List ℕ) → (number_of (step z (accept n clock out)).0.outcome ≡ 10 → ⊥) → (r : Request) × (request_of z n.0 ≡ Some r)
@@ -246,7 +219,7 @@ reject_found z g n code description clock out h = at (request_of z n.0) refl
     at (Some r) e = (r, e)
 
 waiting_some : (o : Option Request) (q : Request) → waiting_ask o ≡ Some q → (r : Request) × (o ≡ Some r)
-waiting_some None q e = absurd (not_none _ _ e refl)
+waiting_some None q e = absurd cc
 waiting_some (Some r) q e = (r, refl)
 
 module _ (s : Session) (g : Good s) (older : List (Tagged Act)) (m : Core s older) where
@@ -258,7 +231,7 @@ module _ (s : Session) (g : Good s) (older : List (Tagged Act)) (m : Core s olde
       same_found _ _ _ a (ap waiting_ask k)
   meant (By t) q p a f = at (number_in (under t (go s older).1)) refl f
     where
-      at : (o : Option ℕ) → number_in (under t (go s older).1) ≡ o → request_of (go s older).0 (or_else (go s older).0.next_request o) ≡ Some p → q ≡ unnumbered p
+      at : (o : Option ℕ) → number_in (under t (go s older).1) ≡ o → request_of (go s older).0 (unwrap_or o (go s older).0.next_request) ≡ Some p → q ≡ unnumbered p
       at None e h = absurd (not_none _ _ h (request_absent (go s older).0 m.good (go s older).0.next_request (omega arith)))
       at (Some n) e h = same_found _ _ _ a ((m.new t n e).1 p h)
 
@@ -325,7 +298,7 @@ module _ (s : Session) (g : Good s) (older : List (Tagged Act)) (m : Core s olde
 -- ---- the number in an answer is the decision's
 fitted_number : (d : Decision) (c : Option ℕ) (out : List ℕ) (n : ℕ) → request_in (fitted d c out).event ≡ Some n → request_in d.event ≡ Some n
 fitted_number d (Some c) out n e = e
-fitted_number d None out n e = absurd (not_none _ _ e refl)
+fitted_number d None out n e = absurd cc
 
 written_number : (k : Constants) (d : Decision) (code description : List ℕ) (clock : ℕ) (out : List ℕ) (n : ℕ) → request_in (written k d code description clock out).event ≡ Some n → request_in d.event ≡ Some n
 written_number k d code description clock out n e =
@@ -347,10 +320,8 @@ answer_number k d (media kind x timestamp) n e = e
 answer_number k d (accept m clock out) n e = written_number k d [] [] clock out n e
 answer_number k d (reject m code description clock out) n e = written_number k d code description clock out n e
 answer_number k d (finish x clock out) n e = written_number k d [] [] clock out n e
-answer_number k d (send_metadata x m clock out) n e = absurd (not_none _ _ e (sent_none _ _))
-answer_number k d (send_audio x timestamp droppable body out) n e = absurd (not_none _ _ e (sent_none _ _))
-answer_number k d (send_video x timestamp droppable body out) n e = absurd (not_none _ _ e (sent_none _ _))
 answer_number k d (send_ping clock out) n e = absurd (not_none _ _ e (pinged_none _ _))
+answer_number k d other n e = absurd (not_none _ _ e (sent_none _ _))
 
 -- ---- of acts and their calls
 births_call : (l : Log) (act : Act) → made_by (doing (call_of l act)) ≡ creates act
@@ -448,7 +419,7 @@ pub sim : (s : Session) → Good s → connected s ≡ true → (l : List (Tagge
 unfolding go creations_in machine machine_answers mine replies_of under
 sim s g on [] n r f =
     record {
-      core = record { good = g; on = on; same = refl; app = refl; next = omega arith; base = omega arith; old = λ i q lt h. h; new = λ t i h. absurd (not_none _ _ h refl) };
+      core = record { good = g; on = on; same = refl; app = refl; next = omega arith; base = omega arith; old = λ i q lt h. h; new = λ t i h. absurd cc };
       agree = λ x. refl;
       told = λ x. refl;
     }

@@ -18,11 +18,11 @@ use Rattle.answers.specs.Sending.{sent}
 use Rattle.wishes.specs.Commands.{command_wish}
 use Rattle.wishes.specs.Control.{control_wish}
 use Rattle.wishes.specs.DataFrame.{data_wish}
-use Rattle.wishes.specs.Outcome.{Outcome, number_of}
+use Rattle.wishes.specs.Outcome.{number_of}
 use Rattle.wishes.specs.declared.outcome.Refusal.{Refusal}
 use Rattle.wishes.specs.declared.outcome.Refusal.TheVariants.{NoRoom}
 use Rattle.wishes.specs.declared.wish.Wish.{Wish}
-use Rattle.wishes.specs.declared.wish.Wish.TheVariants.{Nothing, Connect, CreateStream, CloseStream, DeleteStream, Publish, Play, Metadata, PingRequest, PingResponse}
+use Rattle.wishes.specs.declared.wish.Wish.TheVariants.{CreateStream, CloseStream, DeleteStream}
 use Rattle.session.specs.Changes.{applied}
 use Rattle.session.specs.Decisions.{nothing, refusing}
 use Rattle.session.specs.State.{session_sound}
@@ -94,14 +94,10 @@ keeps s d code description clock out = if_fitted s d (sent (records_of (constant
 
 abbrev pub next_by : Session → Decision → Call → Session
 next_by s d (message type x timestamp clock body out) = keeps s d [] [] clock out
-next_by s d (media kind x timestamp) = applied s d.change
 next_by s d (accept n clock out) = keeps s d [] [] clock out
 next_by s d (reject n code description clock out) = keeps s d code description clock out
 next_by s d (finish x clock out) = keeps s d [] [] clock out
-next_by s d (send_metadata x m clock out) = applied s d.change
-next_by s d (send_audio x timestamp droppable body out) = applied s d.change
-next_by s d (send_video x timestamp droppable body out) = applied s d.change
-next_by s d (send_ping clock out) = applied s d.change
+next_by s d other = applied s d.change
 
 -- ---- no records always fit
 pub sent_nothing : (out : List ℕ) → sent [] out ≡ (Some 0, out)
@@ -155,10 +151,7 @@ module _ (s : Session) where
   step_is q (accept n clock out) = rw q (finishes (decision_at s (Accepts n)) [] [] clock out)
   step_is q (reject n code description clock out) = rw q (finishes (decision_at s (Rejects n (short code description))) code description clock out)
   step_is q (finish x clock out) = rw q (finishes (decision_at s (Finishes x)) [] [] clock out)
-  step_is q (send_metadata x m clock out) = rw q
-  step_is q (send_audio x timestamp droppable body out) = rw q
-  step_is q (send_video x timestamp droppable body out) = rw q
-  step_is q (send_ping clock out) = rw q
+  step_is q other = rw q
 
   pub step_answer : session_sound s ≡ true → (c : Call) → (step s c).0 ≡ answer_by (constants_of s) (decision_at s (doing c)) c
   step_answer q c = ap (λ (p : Response × Session). p.0) (step_is q c)
@@ -180,10 +173,7 @@ module _ (s : Session) where
   call_made (accept n clock out) = written_made (decision_at s (Accepts n)) [] [] clock out
   call_made (reject n code description clock out) = written_made (decision_at s (Rejects n (short code description))) code description clock out
   call_made (finish x clock out) = written_made (decision_at s (Finishes x)) [] [] clock out
-  call_made (send_metadata x m clock out) = λ h. (refl, refl)
-  call_made (send_audio x timestamp droppable body out) = λ h. (refl, refl)
-  call_made (send_video x timestamp droppable body out) = λ h. (refl, refl)
-  call_made (send_ping clock out) = λ h. (refl, refl)
+  call_made other = λ h. (refl, refl)
 
   pub step_next : session_sound s ≡ true → (c : Call) → Made (decision_at s (doing c)) (step s c).0 (step s c).1
   step_next q c = rw (step_is q c) (call_made c)
@@ -207,13 +197,7 @@ module _ (s : Session) where
   unfolding message_doing
   readable (message type x timestamp clock body out) = types_readable x timestamp body (eqb type 4) (eqb type 8) (eqb type 9) (eqb type 18) (eqb type 20)
   readable (media kind x timestamp) = kind_none kind timestamp
-  readable (accept n clock out) = tt
-  readable (reject n code description clock out) = tt
-  readable (finish x clock out) = tt
-  readable (send_metadata x m clock out) = tt
-  readable (send_audio x timestamp droppable body out) = tt
-  readable (send_video x timestamp droppable body out) = tt
-  readable (send_ping clock out) = tt
+  readable other = tt
 
   pub does : (c : Call) → Did s (doing c) (decision_at s (doing c))
   does c = did s (doing c) (readable c)
@@ -225,17 +209,10 @@ pub data Took (s : Session) (g : Doing) : Response → Session → Type 0 where
 module _ (s : Session) where
   -- 12 changes nothing, whatever was wanted
   no_room_want : (v : Result Wish Refusal) → StillWant s v (Err NoRoom)
-  no_room_want (Ok Nothing) = tt
-  no_room_want (Err o) = tt
-  no_room_want (Ok (Connect t e app)) = tt
   no_room_want (Ok (CreateStream t)) = (refl, refl)
   no_room_want (Ok (CloseStream y)) = λ d. absurd (true≢false (sym d))
   no_room_want (Ok (DeleteStream y)) = λ d. absurd (true≢false (sym d))
-  no_room_want (Ok (Publish t a)) = tt
-  no_room_want (Ok (Play t a)) = tt
-  no_room_want (Ok (Metadata read)) = tt
-  no_room_want (Ok (PingRequest v)) = tt
-  no_room_want (Ok (PingResponse v)) = tt
+  no_room_want other = tt
 
   no_room : (g : Doing) → Did s g (refusing NoRoom)
   no_room (Wants y w) = still (Wants y w) _ refl refl refl (no_room_want w)
@@ -320,13 +297,7 @@ brings (message type y timestamp clock body out) x e q k None = rw (sent_nothing
 brings (message type y timestamp clock body out) x e q k (Some f) = rw (sent_nothing out) (refl, refl)
 brings (media kind y timestamp) x e q k None = (refl, refl)
 brings (media kind y timestamp) x e q k (Some f) = (refl, refl)
-brings (accept n clock out) x e q k f = absurd cc
-brings (reject n code description clock out) x e q k f = absurd cc
-brings (finish y clock out) x e q k f = absurd cc
-brings (send_metadata y m clock out) x e q k f = absurd cc
-brings (send_audio y timestamp droppable body out) x e q k f = absurd cc
-brings (send_video y timestamp droppable body out) x e q k f = absurd cc
-brings (send_ping clock out) x e q k f = absurd cc
+brings other x e q k f = absurd cc
 
 pub media_answer_lem : (s : Session) → session_sound s ≡ true → (c : Call) (x : StreamId) (e : Event) → doing c ≡ Shows x e
     → (frame_in (step s c).0 ≡ raised (frame_of s x e)) × ((step s c).0.outcome ≡ Ok tt)

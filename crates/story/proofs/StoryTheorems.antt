@@ -2,10 +2,8 @@
 use mathlib.Core.Path.{◌≡◌, refl, sym, ap, ap₂, ◌∙◌}
 use mathlib.Core.Logic.{◌↔◌}
 use Prim.Native.Nat.{ℕ}
-use native.Mathlib.Omega.{arith}
 use mathlib.Core.Bool.{Bool, true, false}
 use mathlib.Core.List.{List}
-use lib.Dec.{eqb}
 use Rattle.std.specs.Option.{option_and_then}
 use Rattle.std.specs.Prelude.{Option, Some, None, Ok}
 use Rattle.numbers.specs.Choose.{pick}
@@ -13,9 +11,6 @@ use Rattle.text.specs.declared.ids.StreamId.{StreamId}
 use Rattle.text.specs.declared.names.Name.{Name}
 use Rattle.tables.specs.declared.streams.Stream.{Stream}
 use Rattle.tables.specs.declared.streams.StreamState.{StreamState}
-use Rattle.wishes.specs.Commands.{command_wish}
-use Rattle.wishes.specs.Control.{control_wish}
-use Rattle.wishes.specs.DataFrame.{data_wish}
 use Rattle.session.specs.State.{connected, stream_of}
 use Rattle.session.specs.declared.decision.Event.{Event}
 use Rattle.session.specs.declared.decision.Event.TheVariants.{AudioDataReceived, VideoDataReceived}
@@ -23,11 +18,10 @@ use Rattle.session.specs.declared.session.Session.{Session}
 use Rattle.streams.specs.Streams.{frame_of, shown, shown_found}
 use Rattle.messages.specs.Messages.{media_event}
 use Rattle.messages.specs.declared.messages.MediaKind.{MediaKind}
-use Rattle.messages.specs.declared.messages.MediaKind.TheVariants.{Audio, Video}
-use Rattle.story.specs.Steps.{Call, accept, finish, media, message, reject, send_audio, send_metadata, send_ping, send_video, step}
-use Rattle.story.specs.Doings.{Wants, Shows, Rests, doing, message_doing}
+use Rattle.story.specs.Steps.{Call, media, message, step}
+use Rattle.story.specs.Doings.{Shows, doing, message_doing}
 use Rattle.story.specs.Runs.{Start, after, told}
-use Rattle.story.specs.History.{Last, Never, Creation, Closing, Deletion, PublishAccepted, PlayAccepted, Finishing, joined, last_effective}
+use Rattle.story.specs.History.{Last, PublishAccepted, joined, last_effective}
 use Rattle.story.specs.Stories.{Raised, frame_in, nothing_raised, story_frame}
 use Rattle.story.proofs.LookLaws.{not_none}
 use Rattle.story.proofs.StepLaws.{media_answer_lem, raised}
@@ -59,13 +53,8 @@ by_link false app o e = refl
 
 by_last : (j : Option Name) (l : Last) (e : Event) → frame_by j (state_of l) e ≡ story_frame j l e
 by_last None l e = refl
-by_last (Some app) Never e = refl
-by_last (Some app) Creation e = refl
-by_last (Some app) Closing e = refl
-by_last (Some app) Deletion e = refl
 by_last (Some app) (PublishAccepted key) e = refl
-by_last (Some app) (PlayAccepted key) e = refl
-by_last (Some app) Finishing e = refl
+by_last (Some app) other e = refl
 
 shown_is : (s : Session) (x : StreamId) (e : Event) → raised (frame_of s x e) ≡ frame_by (link s) (standing (stream_of s x.0)) e
 unfolding frame_of
@@ -89,13 +78,8 @@ nothing_says e app key q = not_none _ _ refl (ap (λ (f : Raised). f.event) (sym
 
 story_says : (j : Option Name) (l : Last) (e : Event) (app key : Name) → story_frame j l e ≡ Under e app key → (j ≡ Some app) × (l ≡ PublishAccepted key)
 story_says None l e app key q = absurd (nothing_says e app key q)
-story_says (Some a) Never e app key q = absurd (nothing_says e app key q)
-story_says (Some a) Creation e app key q = absurd (nothing_says e app key q)
-story_says (Some a) Closing e app key q = absurd (nothing_says e app key q)
-story_says (Some a) Deletion e app key q = absurd (nothing_says e app key q)
 story_says (Some a) (PublishAccepted k) e app key q = (ap Some (ap (λ (f : Raised). f.app) q), ap PublishAccepted (ap (λ (f : Raised). f.key) q))
-story_says (Some a) (PlayAccepted k) e app key q = absurd (nothing_says e app key q)
-story_says (Some a) Finishing e app key q = absurd (nothing_says e app key q)
+story_says (Some a) other e app key q = absurd (nothing_says e app key q)
 
 -- after any run from a fresh session, audio or video on x raises its event under this app and key exactly when the last accepted connect was to this app
 -- and the last effective step on x accepted a publish request with this key
@@ -113,10 +97,5 @@ or_nothing b cs c x e q n = (frame_by_story b cs c x e q).0 ∙ at (joined (told
   where
     at : (j : Option Name) (l : Last) → ((key : Name) → l ≡ PublishAccepted key → ⊥) → story_frame j l e ≡ nothing_raised
     at None l k = refl
-    at (Some app) Never k = refl
-    at (Some app) Creation k = refl
-    at (Some app) Closing k = refl
-    at (Some app) Deletion k = refl
     at (Some app) (PublishAccepted key) k = absurd (k key refl)
-    at (Some app) (PlayAccepted key) k = refl
-    at (Some app) Finishing k = refl
+    at (Some app) other k = refl

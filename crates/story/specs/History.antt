@@ -1,5 +1,5 @@
 -- Document 01's words over calls and their answers alone: filed, decided, waiting, joined, and the last effective step on a stream.
-use Rattle.std.specs.Prelude.{ℕ, ◌+◌, Bool, true, false, List, [], ◌∷◌, Option, Some, None, Result, Ok, Err, eqb}
+use Rattle.std.specs.Prelude.{ℕ, ◌+◌, Bool, true, false, List, [], ◌∷◌, Option, Some, None, Result, Ok, eqb}
 use Rattle.numbers.specs.Choose.{pick}
 use Rattle.text.specs.declared.ids.StreamId.{StreamId}
 use Rattle.text.specs.declared.names.Name.{Name}
@@ -8,12 +8,11 @@ use Rattle.tables.specs.declared.requests.RequestKind.TheVariants.{Connect, Publ
 use Rattle.wishes.specs.Outcome.{Outcome, number_of}
 use Rattle.wishes.specs.declared.outcome.Refusal.{Refusal}
 use Rattle.wishes.specs.declared.wish.Wish.{Wish}
-use Rattle.wishes.specs.declared.wish.Wish.TheVariants.{Nothing, CreateStream, CloseStream, DeleteStream, Metadata, PingRequest, PingResponse}
-use Rattle.wishes.specs.declared.wish.Wish.TheVariants.{Connect as ConnectWish, Publish as PublishWish, Play as PlayWish}
+use Rattle.wishes.specs.declared.wish.Wish.TheVariants.{CreateStream, CloseStream, DeleteStream}
 use Rattle.session.specs.declared.decision.Event.{Event}
-use Rattle.session.specs.declared.decision.Event.TheVariants.{ConnectionRequested, PublishStreamRequested, PlayStreamRequested, PublishStreamFinished, PlayStreamFinished, StreamMetadataChanged, AudioDataReceived, VideoDataReceived, PingResponseReceived}
+use Rattle.session.specs.declared.decision.Event.TheVariants.{ConnectionRequested, PublishStreamRequested, PlayStreamRequested}
 use Rattle.story.specs.Steps.{Response}
-use Rattle.story.specs.Doings.{Doing, Wants, Shows, Rests, Accepts, Rejects, Finishes, Sends, doing}
+use Rattle.story.specs.Doings.{Doing, Wants, Accepts, Rejects, Finishes, doing}
 use Rattle.story.specs.Runs.{Told}
 
 -- "0 | done"
@@ -29,25 +28,14 @@ pub record Filed : Type 0 where
   pub name : Name
 
 abbrev pub filed_by : StreamId → Option Event → Name → Name → Option Filed
-filed_by x None app key = None
 filed_by x (Some (ConnectionRequested n)) app key = Some (record { number = n.0; kind = Connect; stream = 0; name = app })
 filed_by x (Some (PublishStreamRequested n mode)) app key = Some (record { number = n.0; kind = Publish; stream = x.0; name = key })
 filed_by x (Some (PlayStreamRequested n start duration reset y)) app key = Some (record { number = n.0; kind = Play; stream = y.0; name = key })
-filed_by x (Some PublishStreamFinished) app key = None
-filed_by x (Some PlayStreamFinished) app key = None
-filed_by x (Some StreamMetadataChanged) app key = None
-filed_by x (Some (AudioDataReceived t)) app key = None
-filed_by x (Some (VideoDataReceived t)) app key = None
-filed_by x (Some (PingResponseReceived t)) app key = None
+filed_by x other app key = None
 
 abbrev pub filing : Doing → Response → Option Filed
 filing (Wants x w) r = filed_by x r.event r.app r.key
-filing (Shows x e) r = None
-filing Rests r = None
-filing (Accepts n) r = None
-filing (Rejects n short) r = None
-filing (Finishes x) r = None
-filing (Sends x) r = None
+filing other r = None
 
 abbrev pub numbered : ℕ → Option Filed → Option Filed → Option Filed
 numbered n None old = old
@@ -60,13 +48,9 @@ filed n (e ∷ h) = numbered n (filing (doing e.call) e.answer) (filed n h)
 
 -- ---- "decided (answer 0, or 11 from an accept)"
 abbrev pub decides : Doing → Outcome → Option ℕ
-decides (Wants x w) o = None
-decides (Shows x e) o = None
-decides Rests o = None
 decides (Accepts n) o = pick (done o) (Some n.0) (pick (eqb (number_of o) 11) (Some n.0) None)
 decides (Rejects n short) o = pick (done o) (Some n.0) None
-decides (Finishes x) o = None
-decides (Sends x) o = None
+decides other o = None
 
 abbrev pub is_it : ℕ → Option ℕ → Bool → Bool
 is_it n None old = old
@@ -113,13 +97,8 @@ joining None old = old
 joining (Some f) old = joining_kind f.kind f.name old
 
 abbrev pub joined_by : Doing → Outcome → List Told → Option Name → Option Name
-joined_by (Wants x w) o h old = old
-joined_by (Shows x e) o h old = old
-joined_by Rests o h old = old
 joined_by (Accepts n) o h old = pick (done o) (joining (filed n.0 h) old) old
-joined_by (Rejects n short) o h old = old
-joined_by (Finishes x) o h old = old
-joined_by (Sends x) o h old = old
+joined_by other o h old = old
 
 unfoldable pub joined : List Told → Option Name
 joined [] = None
@@ -127,26 +106,12 @@ joined (e ∷ h) = joined_by (doing e.call) e.answer.outcome h (joined h)
 
 -- ---- "createStream: connected or not, makes the next number, from 1"
 abbrev pub makes : Result Wish Refusal → ℕ
-makes (Ok Nothing) = 0
-makes (Err o) = 0
-makes (Ok (ConnectWish transaction encoding app)) = 0
 makes (Ok (CreateStream transaction)) = 1
-makes (Ok (CloseStream y)) = 0
-makes (Ok (DeleteStream y)) = 0
-makes (Ok (PublishWish transaction arguments)) = 0
-makes (Ok (PlayWish transaction arguments)) = 0
-makes (Ok (Metadata read)) = 0
-makes (Ok (PingRequest v)) = 0
-makes (Ok (PingResponse v)) = 0
+makes other = 0
 
 abbrev pub creation : Doing → Outcome → ℕ
 creation (Wants x w) o = pick (done o) (makes w) 0
-creation (Shows x e) o = 0
-creation Rests o = 0
-creation (Accepts n) o = 0
-creation (Rejects n short) o = 0
-creation (Finishes x) o = 0
-creation (Sends x) o = 0
+creation other o = 0
 
 unfoldable pub creations : List Told → ℕ
 creations [] = 0
@@ -164,12 +129,8 @@ pub data Last : Type 0 where
 
 abbrev pub stands : Last → Bool
 stands Never = false
-stands Creation = true
-stands Closing = true
 stands Deletion = false
-stands (PublishAccepted key) = true
-stands (PlayAccepted key) = true
-stands Finishing = true
+stands other = true
 
 -- "closeStream, deleteStream: nothing unless connected and the first argument is a number whose u32 names a stream"
 abbrev pub ending : Last → Option Name → Last → Last
@@ -177,17 +138,10 @@ ending new None old = old
 ending new (Some app) old = pick (stands old) new old
 
 abbrev pub effect_of_want : ℕ → Result Wish Refusal → List Told → Last → Last
-effect_of_want x (Ok Nothing) h old = old
-effect_of_want x (Err o) h old = old
-effect_of_want x (Ok (ConnectWish transaction encoding app)) h old = old
 effect_of_want x (Ok (CreateStream transaction)) h old = pick (eqb (creations h + 1) x) Creation old
 effect_of_want x (Ok (CloseStream y)) h old = pick (eqb y.0 x) (ending Closing (joined h) old) old
 effect_of_want x (Ok (DeleteStream y)) h old = pick (eqb y.0 x) (ending Deletion (joined h) old) old
-effect_of_want x (Ok (PublishWish transaction arguments)) h old = old
-effect_of_want x (Ok (PlayWish transaction arguments)) h old = old
-effect_of_want x (Ok (Metadata read)) h old = old
-effect_of_want x (Ok (PingRequest v)) h old = old
-effect_of_want x (Ok (PingResponse v)) h old = old
+effect_of_want x other h old = old
 
 -- "Accepting publish or play sets that state from whatever stood there"
 abbrev pub acceptance : RequestKind → Name → Last → Last
@@ -202,12 +156,9 @@ accepting x (Some f) old = pick (eqb f.stream x) (acceptance f.kind f.name old) 
 -- the last effective step on x, if this step comes after `old`: a step that is refused changes nothing, and 11 no stream
 abbrev pub effect : ℕ → Doing → Outcome → List Told → Last → Last
 effect x (Wants y w) o h old = pick (done o) (effect_of_want x w h old) old
-effect x (Shows y e) o h old = old
-effect x Rests o h old = old
 effect x (Accepts n) o h old = pick (done o) (accepting x (filed n.0 h) old) old
-effect x (Rejects n short) o h old = old
 effect x (Finishes y) o h old = pick (done o) (pick (eqb y.0 x) Finishing old) old
-effect x (Sends y) o h old = old
+effect x other o h old = old
 
 unfoldable pub last_effective : ℕ → List Told → Last
 last_effective x [] = Never

@@ -1,11 +1,10 @@
 -- Demand 3, the second half: two runs with the same further steps in another order. Steps are tagged; a list has the NEWEST FIRST.
 use Rattle.std.specs.Prelude.{ℕ, ◌+◌, ◌≡◌, Bool, false, ◌||◌, List, [], ◌∷◌, Option, Some, None, Result, Ok, Err, eqb}
-use Rattle.std.specs.Option.{unwrap_or}
+use Rattle.std.specs.Option.{option_and_then, option_map, unwrap_or}
 use Rattle.numbers.specs.Choose.{pick}
 use Rattle.text.specs.Names.{empty_name}
 use Rattle.text.specs.declared.ids.RequestId.{RequestId}
 use Rattle.text.specs.declared.ids.StreamId.{StreamId}
-use Rattle.text.specs.declared.names.Name.{Name}
 use Rattle.text.specs.declared.words.PublishMode.TheVariants.{Live}
 use Rattle.tables.specs.declared.requests.Request.{Request}
 use Rattle.tables.specs.declared.requests.RequestKind.TheVariants.{Connect, Publish, Play}
@@ -16,14 +15,14 @@ use Rattle.wishes.specs.declared.wish.PlayFault.{PlayFault}
 use Rattle.wishes.specs.declared.wish.PublishArguments.{PublishArguments}
 use Rattle.wishes.specs.declared.wish.PublishFault.{PublishFault}
 use Rattle.wishes.specs.declared.wish.Wish.{Wish}
-use Rattle.wishes.specs.declared.wish.Wish.TheVariants.{Nothing, CreateStream, CloseStream, DeleteStream, Metadata, PingRequest, PingResponse}
+use Rattle.wishes.specs.declared.wish.Wish.TheVariants.{CreateStream, CloseStream, DeleteStream, Metadata}
 use Rattle.wishes.specs.declared.wish.Wish.TheVariants.{Connect as ConnectWish, Publish as PublishWish, Play as PlayWish}
 use Rattle.session.specs.State.{request_of, stream_of}
 use Rattle.session.specs.declared.decision.Event.{Event}
-use Rattle.session.specs.declared.decision.Event.TheVariants.{ConnectionRequested, PublishStreamRequested, PlayStreamRequested, PublishStreamFinished, PlayStreamFinished, StreamMetadataChanged, AudioDataReceived, VideoDataReceived, PingResponseReceived}
+use Rattle.session.specs.declared.decision.Event.TheVariants.{ConnectionRequested, PublishStreamRequested, PlayStreamRequested}
 use Rattle.session.specs.declared.session.Session.{Session}
 use Rattle.story.specs.Steps.{Call, Response, accept, reject, step}
-use Rattle.story.specs.Doings.{Doing, Wants, Shows, Rests, Accepts, Rejects, Finishes, Sends, doing}
+use Rattle.story.specs.Doings.{Doing, Wants, Shows, Accepts, Rejects, Finishes, Sends, doing}
 use Rattle.story.specs.History.{makes}
 
 -- ---- what is held under a tag
@@ -61,26 +60,15 @@ abbrev pub request_in : Option Event → Option ℕ
 request_in (Some (ConnectionRequested n)) = Some n.0
 request_in (Some (PublishStreamRequested n mode)) = Some n.0
 request_in (Some (PlayStreamRequested n start duration reset x)) = Some n.0
-request_in (Some PublishStreamFinished) = None
-request_in (Some PlayStreamFinished) = None
-request_in (Some StreamMetadataChanged) = None
-request_in (Some (AudioDataReceived t)) = None
-request_in (Some (VideoDataReceived t)) = None
-request_in (Some (PingResponseReceived t)) = None
-request_in None = None
+request_in other = None
 
 abbrev pub number_in : Option Response → Option ℕ
-number_in None = None
-number_in (Some r) = request_in r.event
-
-abbrev pub or_else : ℕ → Option ℕ → ℕ
-or_else d None = d
-or_else d (Some n) = n
+number_in r = option_and_then (λ a. request_in a.event) r
 
 -- the number of the request in this run; where the step of the tag filed none, the next one, which no request has
 abbrev pub resolve : Log → Ref → RequestId
 resolve l (Old n) = record { 0 = n }
-resolve l (By t) = record { 0 = or_else l.0.next_request (number_in (under t l.1)) }
+resolve l (By t) = record { 0 = unwrap_or (number_in (under t l.1)) l.0.next_request }
 
 abbrev pub call_of : Log → Act → Call
 call_of l (Plain c) = c
@@ -106,8 +94,7 @@ abbrev pub unnumbered : Request → Request
 unnumbered r = record { id = record { 0 = 0 }; kind = r.kind; stream = r.stream; mode = r.mode; transaction = r.transaction; name = r.name }
 
 abbrev pub waiting_ask : Option Request → Option Request
-waiting_ask None = None
-waiting_ask (Some r) = Some (unnumbered r)
+waiting_ask r = option_map unnumbered r
 
 -- a name over 128 bytes stands as the empty one: with it nothing is filed
 abbrev pub publish_ask : StreamId → Result PublishArguments PublishFault → Option Request
@@ -119,32 +106,17 @@ play_ask x (Ok a) = Some (record { id = record { 0 = 0 }; kind = Play; stream = 
 play_ask x (Err f) = None
 
 abbrev pub want_ask : StreamId → Result Wish Refusal → Option Request
-want_ask x (Ok Nothing) = None
-want_ask x (Ok (ConnectWish transaction encoding app)) = None
-want_ask x (Ok (CreateStream transaction)) = None
-want_ask x (Ok (CloseStream y)) = None
-want_ask x (Ok (DeleteStream y)) = None
 want_ask x (Ok (PublishWish transaction arguments)) = publish_ask x arguments
 want_ask x (Ok (PlayWish transaction arguments)) = play_ask x arguments
-want_ask x (Ok (Metadata read)) = None
-want_ask x (Ok (PingRequest v)) = None
-want_ask x (Ok (PingResponse v)) = None
-want_ask x (Err r) = None
+want_ask x other = None
 
 abbrev pub doing_ask : Doing → Option Request
 doing_ask (Wants x w) = want_ask x w
-doing_ask (Shows x e) = None
-doing_ask Rests = None
-doing_ask (Accepts n) = None
-doing_ask (Rejects n short) = None
-doing_ask (Finishes x) = None
-doing_ask (Sends x) = None
+doing_ask other = None
 
 abbrev pub act_ask : Option Act → Option Request
-act_ask None = None
 act_ask (Some (Plain c)) = doing_ask (doing c)
-act_ask (Some (Accept r clock out)) = None
-act_ask (Some (Reject r code description clock out)) = None
+act_ask other = None
 
 -- s is the session after the common part
 abbrev pub ask_at : Session → List (Tagged Act) → Ref → Option Request
@@ -155,17 +127,11 @@ ask_at s older (By t) = act_ask (under t older)
 -- the message's stream for other commands, data and media; the request's stream for a decision; the call's stream for a finish or send."
 abbrev pub made_by : Doing → ℕ
 made_by (Wants x w) = makes w
-made_by (Shows x e) = 0
-made_by Rests = 0
-made_by (Accepts n) = 0
-made_by (Rejects n short) = 0
-made_by (Finishes x) = 0
-made_by (Sends x) = 0
+made_by other = 0
 
 abbrev pub creates : Act → ℕ
 creates (Plain c) = made_by (doing c)
-creates (Accept r clock out) = 0
-creates (Reject r code description clock out) = 0
+creates other = 0
 
 unfoldable pub creations_in : List (Tagged Act) → ℕ
 creations_in [] = 0
@@ -174,30 +140,23 @@ creations_in (p ∷ older) = creations_in older + creates p.held
 -- next: the number that a creation makes. What can't be read, and a command or data that does nothing, is counted to no stream:
 -- that asks less of two runs than the sentence does
 abbrev pub owner_of_want : ℕ → StreamId → Result Wish Refusal → Option ℕ
-owner_of_want next x (Ok Nothing) = None
-owner_of_want next x (Err o) = None
-owner_of_want next x (Ok (ConnectWish transaction encoding app)) = None
 owner_of_want next x (Ok (CreateStream transaction)) = Some next
 owner_of_want next x (Ok (CloseStream y)) = Some y.0
 owner_of_want next x (Ok (DeleteStream y)) = Some y.0
 owner_of_want next x (Ok (PublishWish transaction arguments)) = Some x.0
 owner_of_want next x (Ok (PlayWish transaction arguments)) = Some x.0
 owner_of_want next x (Ok (Metadata read)) = Some x.0
-owner_of_want next x (Ok (PingRequest v)) = None
-owner_of_want next x (Ok (PingResponse v)) = None
+owner_of_want next x other = None
 
 abbrev pub stream_in : Option Request → Option ℕ
-stream_in None = None
-stream_in (Some r) = Some r.stream.0
+stream_in r = option_map (λ q. q.stream.0) r
 
 abbrev pub owner_of : ℕ → Doing → Option ℕ
 owner_of next (Wants x w) = owner_of_want next x w
 owner_of next (Shows x e) = Some x.0
-owner_of next Rests = None
-owner_of next (Accepts n) = None
-owner_of next (Rejects n short) = None
 owner_of next (Finishes x) = Some x.0
 owner_of next (Sends x) = x
+owner_of next other = None
 
 abbrev pub owner : Session → List (Tagged Act) → Act → Option ℕ
 owner s older (Plain c) = owner_of (s.next_stream + creations_in older) (doing c)
@@ -225,26 +184,14 @@ Each P (p ∷ older) = P older p.held × Each P older
 
 -- "no connect business after": no connect, and no decision of one; each decision names its request by a Ref
 abbrev pub ConnectlessWant : Result Wish Refusal → Type 0
-ConnectlessWant (Ok Nothing) = Unit {0}
-ConnectlessWant (Err o) = Unit {0}
 ConnectlessWant (Ok (ConnectWish transaction encoding app)) = ⊥
-ConnectlessWant (Ok (CreateStream transaction)) = Unit {0}
-ConnectlessWant (Ok (CloseStream y)) = Unit {0}
-ConnectlessWant (Ok (DeleteStream y)) = Unit {0}
-ConnectlessWant (Ok (PublishWish transaction arguments)) = Unit {0}
-ConnectlessWant (Ok (PlayWish transaction arguments)) = Unit {0}
-ConnectlessWant (Ok (Metadata read)) = Unit {0}
-ConnectlessWant (Ok (PingRequest v)) = Unit {0}
-ConnectlessWant (Ok (PingResponse v)) = Unit {0}
+ConnectlessWant other = Unit {0}
 
 abbrev pub Connectless : Doing → Type 0
 Connectless (Wants x w) = ConnectlessWant w
-Connectless (Shows x e) = Unit {0}
-Connectless Rests = Unit {0}
 Connectless (Accepts n) = ⊥
 Connectless (Rejects n short) = ⊥
-Connectless (Finishes x) = Unit {0}
-Connectless (Sends x) = Unit {0}
+Connectless other = Unit {0}
 
 abbrev pub NotOfConnect : Option Request → Type 0
 NotOfConnect None = Unit {0}
@@ -295,20 +242,13 @@ abbrev pub plain_event : Option Event → Option Event
 plain_event (Some (ConnectionRequested n)) = Some (ConnectionRequested (record { 0 = 0 }))
 plain_event (Some (PublishStreamRequested n mode)) = Some (PublishStreamRequested (record { 0 = 0 }) mode)
 plain_event (Some (PlayStreamRequested n start duration reset x)) = Some (PlayStreamRequested (record { 0 = 0 }) start duration reset x)
-plain_event (Some PublishStreamFinished) = Some PublishStreamFinished
-plain_event (Some PlayStreamFinished) = Some PlayStreamFinished
-plain_event (Some StreamMetadataChanged) = Some StreamMetadataChanged
-plain_event (Some (AudioDataReceived t)) = Some (AudioDataReceived t)
-plain_event (Some (VideoDataReceived t)) = Some (VideoDataReceived t)
-plain_event (Some (PingResponseReceived t)) = Some (PingResponseReceived t)
-plain_event None = None
+plain_event other = other
 
 abbrev pub plain : Response → Response
 plain r = record { outcome = r.outcome; event = plain_event r.event; app = r.app; key = r.key; metadata = r.metadata; count = r.count; timestamp = r.timestamp; out = r.out }
 
 abbrev pub plain_answer : Option Response → Option Response
-plain_answer None = None
-plain_answer (Some r) = Some (plain r)
+plain_answer r = option_map plain r
 
 -- "Then each step gives the same answer, request numbers apart, and each stream ends alike.": outcome, event, app, key, metadata, count and every byte; state, mode and key
 pub record Alike (s : Session) (l m : List (Tagged Act)) : Type 0 where

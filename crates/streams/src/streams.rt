@@ -64,7 +64,13 @@ fn end_stream(state: StreamState, app: Name, key: Name, change: Change) -> Decis
 {
     match state {
         StreamState::Publishing => {
-            raised(Event::PublishStreamFinished, app, key, no_metadata(), change)
+            raised(
+                Event::PublishStreamFinished,
+                app,
+                key,
+                no_metadata(),
+                change,
+            )
         }
         StreamState::Playing => raised(Event::PlayStreamFinished, app, key, no_metadata(), change),
         StreamState::Created | StreamState::Completed => quiet(change),
