@@ -77,7 +77,11 @@ pub fn encoder_bytes(m: StreamMetadata) -> [u8; 128]
 fn whole(set: u64, value: u64) -> Option<u32>
     ensures { result ≡ given set (value % 4294967296) }
 {
-    if set == 1 { Some(short_number(value)) } else { None }
+    if set == 1 {
+        Some(short_number(value))
+    } else {
+        None
+    }
 }
 
 fn rate_of(set: u64, value: u64) -> Option<f32>

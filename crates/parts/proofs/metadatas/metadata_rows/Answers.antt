@@ -18,8 +18,7 @@ unfolding field_numbers
 loop-i-preserved c =
     let l = c.loop-i in
     let fields = c.field_numbers-fields.result in
-    let long : length fields ≡ 11 = ap length c.field_numbers-fields.ensures in
-    (
+    let long : length fields ≡ 11 = ap length c.field_numbers-fields.ensures in (
       (simp length-set l.invariant.0.0, filled (λ (n : Option ℕ). flag_number (is_some n)) fields 11 long l.i l.set _ l.invariant.0.1 c.loop-i-test.true _ (c.flag_number.ensures ∙ ap flag_number c.is_some.ensures)),
       (simp length-set l.invariant.1.0, filled (λ (n : Option ℕ). unwrap_or n 0) fields 11 long l.i l.values _ l.invariant.1.1 c.loop-i-test.true _ c.unwrap_or.ensures),
     )
@@ -31,6 +30,6 @@ returns c =
     let all : l.i ≡ 11 = omega arith in
     let m = c.field_numbers-fields.ensures in
     λ i.
-      (l.invariant.0.1 ∙ (λ j. map (λ (n : Option ℕ). flag_number (is_some n)) (take (all j) (m j)) ++ replicate (11 - all j) 0)) i
-      ∷ (l.invariant.1.1 ∙ (λ j. map (λ (n : Option ℕ). unwrap_or n 0) (take (all j) (m j)) ++ replicate (11 - all j) 0)) i
-      ∷ []
+    (l.invariant.0.1 ∙ (λ j. map (λ (n : Option ℕ). flag_number (is_some n)) (take (all j) (m j)) ++ replicate (11 - all j) 0)) i
+    ∷ (l.invariant.1.1 ∙ (λ j. map (λ (n : Option ℕ). unwrap_or n 0) (take (all j) (m j)) ++ replicate (11 - all j) 0)) i
+    ∷ []
