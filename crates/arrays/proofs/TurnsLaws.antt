@@ -2,7 +2,9 @@
 use mathlib.Core.Path.{◌≡◌, refl, sym, ap, ◌∙◌}
 use Prim.Native.Nat.{ℕ}
 use native.Mathlib.Omega.{arith}
-use mathlib.Core.Bool.{Bool, true, false, ◌&&◌, ◌||◌}
+use mathlib.Core.Logic.{◌⊎◌, inl, inr}
+use mathlib.Core.Bool.{Bool, true, false, ◌&&◌}
+use Rattle.std.specs.Prelude.{Option, Some, None, Err}
 use mathlib.Core.List.{List, []}
 use lib.Dec.{eqb}
 use lib.ListN.{get_or}
@@ -13,18 +15,14 @@ use Rattle.text.specs.declared.ids.StreamId.{StreamId}
 use Rattle.metadata.specs.Metadata.{no_metadata}
 use Rattle.record.specs.Clock.{time_of}
 use Rattle.answers.specs.Sending.{sent}
-use Rattle.answers.specs.declared.sent.Sent.{Sent}
-use Rattle.wishes.specs.Commands.{command_wish}
-use Rattle.wishes.specs.Control.{control_wish}
-use Rattle.wishes.specs.DataFrame.{data_wish}
-use Rattle.wishes.specs.Outcome.{number_of}
-use Rattle.wishes.specs.declared.outcome.Outcome.{Outcome}
-use Rattle.wishes.specs.declared.outcome.Outcome.TheVariants.{BadSession, Done, NoRoom}
+use Rattle.wishes.specs.Outcome.{Outcome, number_of}
+use Rattle.wishes.specs.declared.outcome.Refusal.TheVariants.{BadSession, NoRoom}
 use Rattle.session.specs.State.{session_sound}
 use Rattle.session.specs.declared.changes.Change.{Change}
 use Rattle.session.specs.declared.decision.Decision.{Decision}
-use Rattle.session.specs.declared.decision.Event.TheVariants.{NoEvent}
 use Rattle.session.specs.declared.session.Session.{Session}
+use Rattle.session.specs.declared.decision.Event.TheVariants.{AudioDataReceived, VideoDataReceived}
+use Rattle.streams.specs.Streams.{frame_of}
 use Rattle.streams.specs.declared.streams.Frame.{Frame}
 use Rattle.replies.specs.Answers.{answer_of, answered, closed, idle, refusal}
 use Rattle.replies.specs.Finishing.{finishing}
@@ -37,7 +35,7 @@ use Rattle.written.specs.Kept.{kept_at}
 use Rattle.written.proofs.AppliedTheorems.{applied_kept, same_kept}
 use Rattle.parts.specs.Parts.{Shown}
 use Rattle.parts.specs.Told.{told_of}
-use Rattle.desks.specs.Asked.{read_type, wish_of}
+use Rattle.desks.specs.Asked.{wish_of}
 use Rattle.arrays.specs.Turns.{changed_by, hosted, keeps, kept, told, turned, unread}
 
 pub not_both : {A : Type 0} (b : Bool) → b ≡ true → b ≡ false → A
@@ -110,59 +108,49 @@ module _ (facts : List ℕ) (streams requests names : List (List ℕ)) where
         λ i. ((sym z i, w i), out)
 
     -- ---- the records of a decision, then what it changes
-    module _ (also : ℕ) (c d : Decision) (made : d ≡ c) (code description : List ℕ) (clock : ℕ) (out : List ℕ) (r : Sent) (o : List ℕ)
-        (e : ◌≡◌ {A = Sent × List ℕ} (r, o) (sent (reply_records d.reply d.name (record { bytes = get_or names 0 []; len = cell facts 1 }) (cell facts 5) code description (time_of (cell facts 0) clock)) out)) where
+    module _ (also : ℕ) (c d : Decision) (made : d ≡ c) (code description : List ℕ) (clock : ℕ) (out : List ℕ) (r : Option ℕ) (o : List ℕ)
+        (e : ◌≡◌ {A = Option ℕ × List ℕ} (r, o) (sent (reply_records d.reply d.name (record { bytes = get_or names 0 []; len = cell facts 1 }) (cell facts 5) code description (time_of (cell facts 0) clock)) out)) where
       closes : ◌≡◌ {A = Answer × List ℕ} (closed s d r, o) (finishing s c code description clock out)
       unfolding finishing answered session_at
-      closes = ap {B = Answer × List ℕ} (λ (x : Sent × List ℕ). (closed s d x.0, x.1)) e ∙ ap (λ (y : Decision). finishing s y code description clock out) made
+      closes = ap {B = Answer × List ℕ} (λ (x : Option ℕ × List ℕ). (closed s d x.0, x.1)) e ∙ ap (λ (y : Decision). finishing s y code description clock out) made
 
-      pub concluded_full : r.fits ≡ false → (t : ℕ × Shown) → t ≡ told_of NoRoom NoEvent empty_name empty_name no_metadata 0
+      pub concluded_full : r ≡ None → (t : ℕ × Shown) → t ≡ told_of (Err NoRoom) None empty_name empty_name no_metadata 0
           → ◌≡◌ {A = (Arrays × (ℕ × Shown)) × List ℕ} (((facts, (streams, (requests, names))), t), o) (turned also (facts, (streams, (requests, names))) (finishing (session_at facts streams requests names) c code description clock out))
       concluded_full q t w =
-          let z : refusal NoRoom s ≡ closed s d r = simp q in
+          let z : refusal NoRoom s ≡ closed s d r = sym (ap (closed s d) q) in
           stays_told also o (refusal NoRoom s) t refl w ∙ ap (λ (x : Answer). turned also before (x, o)) z ∙ ap (turned also before) closes
 
-      pub concluded : r.fits ≡ true → (x : Arrays) → x ≡ changed_by also (facts, (streams, (requests, names))) d.outcome d.change → (t : ℕ × Shown) → t ≡ told_of d.outcome d.event d.app d.key d.metadata r.count
+      pub concluded : (n : ℕ) → r ≡ Some n → (x : Arrays) → x ≡ changed_by also (facts, (streams, (requests, names))) d.outcome d.change → (t : ℕ × Shown) → t ≡ told_of d.outcome d.event d.app d.key d.metadata n
           → ◌≡◌ {A = (Arrays × (ℕ × Shown)) × List ℕ} ((x, t), o) (turned also (facts, (streams, (requests, names))) (finishing (session_at facts streams requests names) c code description clock out))
       unfolding kept
-      concluded q x k t w =
-          let z : answer_of s d r.count ≡ closed s d r = simp q in
+      concluded n q x k t w =
+          let z : answer_of s d n ≡ closed s d r = sym (ap (closed s d) q) in
           (λ i. ((k i, w i), o)) ∙ ap (λ (y : Answer). turned also before (y, o)) z ∙ ap (turned also before) closes
 
--- ---- what is told
-pub told_frame : (s : Session) (f g : Frame) → f ≡ g → (t : ℕ × Shown) → t ≡ told_of Done f.event f.app f.key no_metadata 0 → t ≡ told (frame_answer s g)
-told_frame s f g q t e = e ∙ (λ i. told_of Done (q i).event (q i).app (q i).key no_metadata 0)
+-- a frame leaves the session
+pub frame_stays : (s : Session) (f : Option Frame) → (frame_answer s f).session ≡ s
+frame_stays s None = refl
+frame_stays s (Some f) = refl
 
 -- ---- by the type: one that is read, audio, video, or none of these
-read_is : {A : Type 0} {B : Type 0} (f : A → B) (x y z : A) (o : B) (a b c : Bool) → a || (b || c) ≡ true → f (pick a x (pick b y z)) ≡ pick a (f x) (pick b (f y) (pick c (f z) o))
-read_is f x y z o true b c e = refl
-read_is f x y z o false true c e = refl
-read_is f x y z o false false true e = refl
-read_is f x y z o false false false e = not_both false e refl
+module _ (s : Session) (type : ℕ) (x : StreamId) (timestamp clock : ℕ) (body out : List ℕ) where
+  said_at : (k : ℕ) → type ≡ k → wished s x clock out (wish_of k body) ≡ by_type s k x timestamp clock body out → wished s x clock out (wish_of type body) ≡ by_type s type x timestamp clock body out
+  said_at k e p = ap (λ (n : ℕ). wished s x clock out (wish_of n body)) e ∙ p ∙ sym (ap (λ (n : ℕ). by_type s n x timestamp clock body out) e)
 
-unread_is : {B : Type 0} (u v w o : B) (a b c : Bool) → a || (b || c) ≡ false → o ≡ pick a u (pick b v (pick c w o))
-unread_is u v w o true b c e = not_both true refl e
-unread_is u v w o false true c e = not_both true refl e
-unread_is u v w o false false true e = not_both true refl e
-unread_is u v w o false false false e = refl
+  pub type_said : (type ≡ 4) ⊎ ((type ≡ 18) ⊎ (type ≡ 20)) → wished s x clock out (wish_of type body) ≡ by_type s type x timestamp clock body out
+  unfolding by_type wish_of
+  type_said (inl e) = said_at 4 e refl
+  type_said (inr (inl e)) = said_at 18 e refl
+  type_said (inr (inr e)) = said_at 20 e refl
 
-module _ (s : Session) (type : ℕ) (x : StreamId) (timestamp clock : ℕ) (body out : List ℕ) (b : Bool) (e : b ≡ read_type type) where
-  not_8 : b ≡ true → type ≡ 8 → ⊥
-  unfolding read_type
-  not_8 q h = let z : read_type type ≡ false = ap read_type h in not_both (read_type type) (sym e ∙ q) z
+  pub type_audio : type ≡ 8 → ◌≡◌ {A = Answer × List ℕ} (frame_answer s (frame_of s x (AudioDataReceived timestamp)), out) (by_type s type x timestamp clock body out)
+  unfolding by_type
+  type_audio e = sym (ap (λ (n : ℕ). by_type s n x timestamp clock body out) e)
 
-  not_9 : b ≡ true → type ≡ 9 → ⊥
-  unfolding read_type
-  not_9 q h = let z : read_type type ≡ false = ap read_type h in not_both (read_type type) (sym e ∙ q) z
+  pub type_video : type ≡ 9 → ◌≡◌ {A = Answer × List ℕ} (frame_answer s (frame_of s x (VideoDataReceived timestamp)), out) (by_type s type x timestamp clock body out)
+  unfolding by_type
+  type_video e = sym (ap (λ (n : ℕ). by_type s n x timestamp clock body out) e)
 
-  pub type_read : b ≡ true → wished s x clock out (wish_of type body) ≡ by_type s type x timestamp clock body out
-  unfolding by_type wish_of read_type
-  type_read q =
-      read_is (wished s x clock out) (control_wish body) (data_wish body) (command_wish body) (idle s 0, out) (eqb type 4) (eqb type 18) (eqb type 20) (sym e ∙ q)
-      ∙ simp (ne_eqb type 8 (not_8 q), ne_eqb type 9 (not_9 q))
-
-  pub type_none : b ≡ false → (type ≡ 8 → ⊥) → (type ≡ 9 → ⊥) → ◌≡◌ {A = Answer × List ℕ} (idle s 0, out) (by_type s type x timestamp clock body out)
-  unfolding by_type read_type
-  type_none q n m =
-      unread_is (wished s x clock out (control_wish body)) (wished s x clock out (data_wish body)) (wished s x clock out (command_wish body)) (idle s 0, out) (eqb type 4) (eqb type 18) (eqb type 20) (sym e ∙ q)
-      ∙ simp (ne_eqb type 8 n, ne_eqb type 9 m)
+  pub type_none : (type ≡ 4 → ⊥) → (type ≡ 8 → ⊥) → (type ≡ 9 → ⊥) → (type ≡ 18 → ⊥) → (type ≡ 20 → ⊥) → ◌≡◌ {A = Answer × List ℕ} (idle s 0, out) (by_type s type x timestamp clock body out)
+  unfolding by_type
+  type_none a b c d e = simp (ne_eqb type 4 a, ne_eqb type 8 b, ne_eqb type 9 c, ne_eqb type 18 d, ne_eqb type 20 e)

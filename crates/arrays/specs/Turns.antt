@@ -1,14 +1,12 @@
 -- A call over the host's arrays: the session that stands in them, the call, and what is left in the arrays.
-use Rattle.std.specs.Prelude.{ℕ, Bool, true, List, eqb}
+use Rattle.std.specs.Prelude.{ℕ, Bool, ◌||◌, List, None, Err, eqb}
 use Rattle.numbers.specs.Choose.{pick}
 use Rattle.text.specs.Names.{empty_name}
 use Rattle.metadata.specs.Metadata.{no_metadata}
-use Rattle.wishes.specs.Outcome.{number_of}
-use Rattle.wishes.specs.declared.outcome.Outcome.{Outcome}
-use Rattle.wishes.specs.declared.outcome.Outcome.TheVariants.{BadSession}
+use Rattle.wishes.specs.Outcome.{Outcome, number_of}
+use Rattle.wishes.specs.declared.outcome.Refusal.TheVariants.{BadSession}
 use Rattle.session.specs.Changes.{applied}
 use Rattle.session.specs.declared.changes.Change.{Change}
-use Rattle.session.specs.declared.decision.Event.TheVariants.{NoEvent}
 use Rattle.session.specs.declared.session.Session.{Session}
 use Rattle.replies.specs.declared.answer.Answer.{Answer}
 use Rattle.image.specs.Image.{Arrays, readable_at, session_at}
@@ -21,8 +19,8 @@ abbrev pub session_in : Arrays → Session
 session_in a = session_at a.0 a.1.0 a.1.1.0 a.1.1.1
 
 -- the session is written back where something was done, and with one more number that a call may name: "only 11 from an accept removes the request"
-unfoldable pub keeps : ℕ → ℕ → Bool
-keeps also number = pick (eqb number 0) true (eqb number also)
+abbrev pub keeps : ℕ → ℕ → Bool
+keeps also number = eqb number 0 || eqb number also
 
 unfoldable pub kept : ℕ → Arrays → Answer → Arrays
 kept also before a = pick (keeps also (number_of a.outcome)) (kept_at before a.session) before
@@ -33,7 +31,7 @@ told a = told_of a.outcome a.event a.app a.key a.metadata a.count
 
 -- of arrays that hold no session
 abbrev pub unread : ℕ × Shown
-unread = told_of BadSession NoEvent empty_name empty_name no_metadata 0
+unread = told_of (Err BadSession) None empty_name empty_name no_metadata 0
 
 -- the same of a change that was decided
 abbrev pub changed_by : ℕ → Arrays → Outcome → Change → Arrays

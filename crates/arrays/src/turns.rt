@@ -1,26 +1,25 @@
 // The calls that may change a session: the door, the decision, its records, what it changes, and what is told.
-ghost use Rattle.std.specs.Prelude.{◌≡◌, true, [], get_or};
+ghost use Rattle.std.specs.Prelude.{◌≡◌, ◌<◌, true, [], get_or};
 ghost use Rattle.record.specs.Clock.{time_of};
 ghost use Rattle.answers.specs.Sending.{sent};
 ghost use Rattle.session.specs.declared.session.Session.{Session};
 ghost use Rattle.streams.specs.Streams.{frame_of};
 ghost use Rattle.replies.specs.Finishing.{finishing};
 ghost use Rattle.replies.specs.Replies.{reply_records};
-ghost use Rattle.messages.specs.Messages.{by_type, frame_answer, handle_message, wished};
-ghost use Rattle.desks.specs.Asked.{decision_of, wish_of};
+ghost use Rattle.messages.specs.Messages.{by_type, frame_answer, guarded, handle_message};
+ghost use Rattle.desks.specs.Asked.{decision_of};
 ghost use Rattle.calls.specs.Calls.{accepting, finishes, rejecting};
 ghost use Rattle.image.specs.Image.{cell, session_at, sound_at};
 ghost use Rattle.arrays.specs.Turns.{changed_by, hosted, keeps, told, turned};
 
-use answers::Sent;
-use desks::{Asked, decision_in, frame_in, is_read};
+use desks::{Asked, decision_in, frame_in};
 use image::{image_sound, types_say};
 use parts::{tell_decision, tell_plain, tell_quiet};
 use record::time_of;
 use replies::write_reply;
 use session::{Change, Event, Reply};
 use text::{Name, RequestId, StreamId};
-use wishes::{Outcome, number_of};
+use wishes::{Outcome, Refusal, number_of};
 use written::apply_in;
 
 // The records of a reply, with the version, the encoding and the start that stand in the arrays.
@@ -33,12 +32,13 @@ fn reply_in(
     description: &[u8],
     clock: u64,
     out: &mut [u8],
-) -> Sent
+) -> Option<usize>
     ensures { (result, out.new) ≡ sent (reply_records reply name (record { bytes = get_or names.now 0 []; len = cell facts.now 1 }) (cell facts.now 5) code.now description.now (time_of (cell facts.now 0) clock)) out.old }
 {
-    let bytes = names[0];
-    let len = facts[1] as usize;
-    let version = Name { bytes, len };
+    let version = Name {
+        bytes: names[0],
+        len: facts[1] as usize,
+    };
     let time = time_of(facts[0], clock);
     write_reply(out, reply, name, version, facts[5], code, description, time)
 }
@@ -47,10 +47,7 @@ fn reply_in(
 fn keeps_session(also: u32, number: u32) -> bool
     ensures { result ≡ keeps also number }
 {
-    if number == 0 {
-        return true;
-    }
-    number == also
+    number == 0 || number == also
 }
 
 fn keep(
@@ -102,19 +99,32 @@ fn conclude(
         description,
         body,
     );
-    let reply = decision.reply;
-    let name = decision.name;
-    let sent = reply_in(facts, names, reply, name, code, description, clock, out);
-    if !sent.fits {
-        return tell_quiet(numbers, described, words, Outcome::NoRoom, 0);
-    }
-    let outcome = decision.outcome;
-    let change = decision.change;
-    keep(facts, streams, requests, names, also, outcome, change);
-    tell_decision(numbers, described, words, decision, sent.count)
+    let Some(count) = reply_in(
+        facts,
+        names,
+        decision.reply,
+        decision.name,
+        code,
+        description,
+        clock,
+        out,
+    ) else {
+        return tell_quiet(numbers, described, words, Err(Refusal::NoRoom), 0);
+    };
+    keep(
+        facts,
+        streams,
+        requests,
+        names,
+        also,
+        decision.outcome,
+        decision.change,
+    );
+    tell_decision(numbers, described, words, decision, count)
 }
 
-fn wish_in(
+// Of an application's answer: arrays that hold no session are refused.
+fn answer_in(
     facts: &mut [u64; 10],
     streams: &mut [[u64; 4]; 16],
     requests: &mut [[u64; 6]; 16],
@@ -123,14 +133,18 @@ fn wish_in(
     described: &mut [[u64; 11]; 2],
     words: &mut [[u8; 128]; 3],
     out: &mut [u8],
-    kind: u8,
-    stream: StreamId,
+    also: u32,
+    asked: Asked,
+    code: &[u8],
+    description: &[u8],
     clock: u64,
-    body: &[u8],
 ) -> u32
-    requires { sound_at facts.old streams.old requests.old names.old ≡ true }
-    ensures { (((facts.new, (streams.new, (requests.new, names.new))), (result, (numbers.new, (described.new, words.new)))), out.new) ≡ turned 0 (facts.old, (streams.old, (requests.old, names.old))) (wished (session_at facts.old streams.old requests.old names.old) stream clock out.old (wish_of kind body.now)) }
+    requires { also < 15 }
+    ensures { (((facts.new, (streams.new, (requests.new, names.new))), (result, (numbers.new, (described.new, words.new)))), out.new) ≡ hosted also (facts.old, (streams.old, (requests.old, names.old))) out.old (λ (s : Session). guarded s out.old (finishing s (decision_of asked s code.now description.now []) code.now description.now clock out.old)) }
 {
+    if !image_sound(facts, streams, requests, names) {
+        return tell_quiet(numbers, described, words, Err(Refusal::BadSession), 0);
+    }
     conclude(
         facts,
         streams,
@@ -140,11 +154,11 @@ fn wish_in(
         described,
         words,
         out,
-        0,
-        Asked::Said { kind, stream },
+        also,
+        asked,
+        code,
+        description,
         b"",
-        b"",
-        body,
         clock,
     )
 }
@@ -163,11 +177,19 @@ fn tell_frame(
 ) -> u32
     ensures { (result, (numbers.new, (described.new, words.new))) ≡ told (frame_answer (session_at facts.now streams.now requests.now names.now) (frame_of (session_at facts.now streams.now requests.now names.now) id event)) }
 {
-    let frame = frame_in(facts, streams, requests, names, id, event);
-    let shown = frame.event;
-    let app = frame.app;
-    let key = frame.key;
-    tell_plain(numbers, described, words, Outcome::Done, shown, app, key, 0)
+    match frame_in(facts, streams, requests, names, id, event) {
+        Some(frame) => tell_plain(
+            numbers,
+            described,
+            words,
+            Ok(()),
+            Some(frame.event),
+            frame.app,
+            frame.key,
+            0,
+        ),
+        None => tell_quiet(numbers, described, words, Ok(()), 0),
+    }
 }
 
 // The type alone picks the treatment.
@@ -190,13 +212,23 @@ fn by_type_in(
     ensures { (((facts.new, (streams.new, (requests.new, names.new))), (result, (numbers.new, (described.new, words.new)))), out.new) ≡ turned 0 (facts.old, (streams.old, (requests.old, names.old))) (by_type (session_at facts.old streams.old requests.old names.old) kind stream timestamp clock body.now out.old) }
 {
     types_say(facts, streams, requests, names);
-    if is_read(kind) {
-        return wish_in(
-            facts, streams, requests, names, numbers, described, words, out, kind, stream, clock,
-            body,
-        );
-    }
     match kind {
+        4 | 18 | 20 => conclude(
+            facts,
+            streams,
+            requests,
+            names,
+            numbers,
+            described,
+            words,
+            out,
+            0,
+            Asked::Said { kind, stream },
+            b"",
+            b"",
+            body,
+            clock,
+        ),
         8 => tell_frame(
             facts,
             streams,
@@ -219,7 +251,7 @@ fn by_type_in(
             stream,
             Event::VideoDataReceived { timestamp },
         ),
-        _ => tell_quiet(numbers, described, words, Outcome::Done, 0),
+        _ => tell_quiet(numbers, described, words, Ok(()), 0),
     }
 }
 
@@ -242,7 +274,7 @@ pub fn message_in(
     ensures { (((facts.new, (streams.new, (requests.new, names.new))), (result, (numbers.new, (described.new, words.new)))), out.new) ≡ hosted 0 (facts.old, (streams.old, (requests.old, names.old))) out.old (λ (s : Session). handle_message s kind (record { 0 = stream }) timestamp clock body.now out.old) }
 {
     if !image_sound(facts, streams, requests, names) {
-        return tell_quiet(numbers, described, words, Outcome::BadSession, 0);
+        return tell_quiet(numbers, described, words, Err(Refusal::BadSession), 0);
     }
     by_type_in(
         facts,
@@ -276,10 +308,7 @@ pub fn accept_in(
 ) -> u32
     ensures { (((facts.new, (streams.new, (requests.new, names.new))), (result, (numbers.new, (described.new, words.new)))), out.new) ≡ hosted 11 (facts.old, (streams.old, (requests.old, names.old))) out.old (λ (s : Session). accepting s (record { 0 = request }) clock out.old) }
 {
-    if !image_sound(facts, streams, requests, names) {
-        return tell_quiet(numbers, described, words, Outcome::BadSession, 0);
-    }
-    conclude(
+    answer_in(
         facts,
         streams,
         requests,
@@ -290,7 +319,6 @@ pub fn accept_in(
         out,
         11,
         Asked::Accept(RequestId(request)),
-        b"",
         b"",
         b"",
         clock,
@@ -314,10 +342,7 @@ pub fn reject_in(
 ) -> u32
     ensures { (((facts.new, (streams.new, (requests.new, names.new))), (result, (numbers.new, (described.new, words.new)))), out.new) ≡ hosted 0 (facts.old, (streams.old, (requests.old, names.old))) out.old (λ (s : Session). rejecting s (record { 0 = request }) code.now description.now clock out.old) }
 {
-    if !image_sound(facts, streams, requests, names) {
-        return tell_quiet(numbers, described, words, Outcome::BadSession, 0);
-    }
-    conclude(
+    answer_in(
         facts,
         streams,
         requests,
@@ -330,7 +355,6 @@ pub fn reject_in(
         Asked::Reject(RequestId(request)),
         code,
         description,
-        b"",
         clock,
     )
 }
@@ -350,10 +374,7 @@ pub fn finish_in(
 ) -> u32
     ensures { (((facts.new, (streams.new, (requests.new, names.new))), (result, (numbers.new, (described.new, words.new)))), out.new) ≡ hosted 0 (facts.old, (streams.old, (requests.old, names.old))) out.old (λ (s : Session). finishes s (record { 0 = stream }) clock out.old) }
 {
-    if !image_sound(facts, streams, requests, names) {
-        return tell_quiet(numbers, described, words, Outcome::BadSession, 0);
-    }
-    conclude(
+    answer_in(
         facts,
         streams,
         requests,
@@ -364,7 +385,6 @@ pub fn finish_in(
         out,
         0,
         Asked::Finish(StreamId(stream)),
-        b"",
         b"",
         b"",
         clock,

@@ -1,9 +1,10 @@
 -- What is asked of a session, and what it decides.
-use Rattle.std.specs.Prelude.{ℕ, Bool, ◌||◌, List, eqb}
+use Rattle.std.specs.Prelude.{ℕ, Bool, ◌||◌, List, Result, eqb}
 use Rattle.numbers.specs.Choose.{pick}
 use Rattle.wishes.specs.Commands.{command_wish}
 use Rattle.wishes.specs.Control.{control_wish}
 use Rattle.wishes.specs.DataFrame.{data_wish}
+use Rattle.wishes.specs.declared.outcome.Refusal.{Refusal}
 use Rattle.wishes.specs.declared.wish.Wish.{Wish}
 use Rattle.session.specs.declared.decision.Decision.{Decision}
 use Rattle.session.specs.declared.session.Session.{Session}
@@ -17,7 +18,7 @@ use Rattle.desks.specs.declared.asked.Asked.TheVariants.{Said, Accept, Reject, F
 unfoldable pub read_type : ℕ → Bool
 read_type type = eqb type 4 || (eqb type 18 || eqb type 20)
 
-unfoldable pub wish_of : ℕ → List ℕ → Wish
+unfoldable pub wish_of : ℕ → List ℕ → Result Wish Refusal
 wish_of type body = pick (eqb type 4) (control_wish body) (pick (eqb type 18) (data_wish body) (command_wish body))
 
 -- the body is a message's, the code and the description are a reject's

@@ -7,7 +7,7 @@ use crate::desks::{accepted_in, decided_in, finished_in, rejected_in};
 use replies::are_short;
 use session::Decision;
 use text::{RequestId, StreamId};
-use wishes::{Wish, command_wish, control_wish, data_wish};
+use wishes::{Refusal, Wish, command_wish, control_wish, data_wish};
 
 // A message of a type and on a stream, or the application's answer.
 #[derive(Clone, Copy)]
@@ -19,19 +19,15 @@ pub enum Asked {
 }
 
 // Types 4, 18 and 20.
+#[tactic(auto, unfolding(crate::specs::Asked::read_type))]
 pub fn is_read(kind: u8) -> bool
     ensures { result ≡ read_type kind }
 {
-    if kind == 4 {
-        return true;
-    }
-    if kind == 18 {
-        return true;
-    }
-    kind == 20
+    matches!(kind, 4 | 18 | 20)
 }
 
-fn wish_of(kind: u8, body: &[u8]) -> Wish
+#[tactic(auto, unfolding(crate::specs::Asked::wish_of))]
+fn wish_of(kind: u8, body: &[u8]) -> Result<Wish, Refusal>
     ensures { result ≡ wish_of kind body.now }
 {
     match kind {

@@ -1,23 +1,20 @@
 // The decisions.
-ghost use Rattle.std.specs.Prelude.{◌≡◌, ◌%◌};
+ghost use Rattle.std.specs.Prelude.{◌≡◌};
 ghost use Rattle.session.specs.Desk.{desk_of};
 ghost use Rattle.steps.specs.Deciding.{decided};
-ghost use Rattle.decisions.specs.Answers.{accepted, finished_on, rejected};
+ghost use Rattle.decisions.specs.Answers.{accepted, finished_on, rejected, stream_stands};
 ghost use Rattle.image.specs.Image.{session_at};
 
 use crate::seen::{connected_in, request_in, stream_in};
 use decisions::{accept, finish, reject};
-use session::{Decision, Desk};
+use image::short_number;
+use session::{Decision, Desk, refused};
 use steps::{decide, subject};
+use tables::Request;
 use text::{Name, RequestId, StreamId};
-use wishes::Wish;
+use wishes::{Refusal, Wish};
 
-fn short_number(n: u64) -> u32
-    ensures { result ≡ n % 4294967296 }
-{
-    (n % 4294967296) as u32
-}
-
+#[tactic(auto, unfolding(session::specs::Desk::desk_of, session::specs::State::connected, image::specs::Image::session_at))]
 fn desk_in(
     facts: &[u64; 10],
     streams: &[[u64; 4]; 16],
@@ -27,39 +24,55 @@ fn desk_in(
 ) -> Desk
     ensures { result ≡ desk_of (session_at facts.now streams.now requests.now names.now) id }
 {
-    let connected = connected_in(facts);
-    let seen = stream_in(facts, streams, requests, names, id);
-    let bytes = names[1];
-    let len = facts[4] as usize;
-    let next_stream = short_number(facts[6]);
-    let next_request = short_number(facts[7]);
-    let stream_count = facts[8] as usize;
-    let request_count = facts[9] as usize;
     Desk {
-        connected,
-        app: Name { bytes, len },
-        next_stream,
-        next_request,
-        stream_count,
-        request_count,
-        seen,
+        connected: connected_in(facts),
+        app: Name {
+            bytes: names[1],
+            len: facts[4] as usize,
+        },
+        next_stream: short_number(facts[6]),
+        next_request: short_number(facts[7]),
+        stream_count: facts[8] as usize,
+        request_count: facts[9] as usize,
+        seen: stream_in(facts, streams, requests, names, id),
     }
 }
 
 // What a message makes of the session.
+#[tactic(auto, unfolding(steps::specs::Deciding::decided))]
 pub fn decided_in(
     facts: &[u64; 10],
     streams: &[[u64; 4]; 16],
     requests: &[[u64; 6]; 16],
     names: &[[u8; 128]; 34],
     stream: StreamId,
-    wish: Wish,
+    read: Result<Wish, Refusal>,
 ) -> Decision
-    ensures { result ≡ decided (session_at facts.now streams.now requests.now names.now) stream wish }
+    ensures { result ≡ decided (session_at facts.now streams.now requests.now names.now) stream read }
 {
-    let want = wish.want;
-    let desk = desk_in(facts, streams, requests, names, subject(want, stream));
-    decide(desk, stream, wish)
+    match read {
+        Ok(wish) => {
+            let desk = desk_in(facts, streams, requests, names, subject(wish, stream));
+            decide(desk, stream, wish)
+        }
+        Err(refusal) => refused(refusal),
+    }
+}
+
+// Whether the stream of a waiting request is there.
+fn stands_in(
+    facts: &[u64; 10],
+    streams: &[[u64; 4]; 16],
+    requests: &[[u64; 6]; 16],
+    names: &[[u8; 128]; 34],
+    waiting: Option<Request>,
+) -> bool
+    ensures { result ≡ stream_stands (session_at facts.now streams.now requests.now names.now) waiting }
+{
+    match waiting {
+        Some(request) => stream_in(facts, streams, requests, names, request.stream).is_some(),
+        None => false,
+    }
 }
 
 // What the application's answers make of it.
@@ -73,9 +86,8 @@ pub fn accepted_in(
     ensures { result ≡ accepted (session_at facts.now streams.now requests.now names.now) id }
 {
     let waiting = request_in(facts, streams, requests, names, id);
-    let request = waiting.request;
-    let seen = stream_in(facts, streams, requests, names, request.stream);
-    accept(waiting, seen.found)
+    let found = stands_in(facts, streams, requests, names, waiting);
+    accept(waiting, found)
 }
 
 pub fn rejected_in(
@@ -88,8 +100,7 @@ pub fn rejected_in(
 ) -> Decision
     ensures { result ≡ rejected (session_at facts.now streams.now requests.now names.now) id short }
 {
-    let waiting = request_in(facts, streams, requests, names, id);
-    reject(waiting, short)
+    reject(request_in(facts, streams, requests, names, id), short)
 }
 
 pub fn finished_in(
@@ -101,6 +112,5 @@ pub fn finished_in(
 ) -> Decision
     ensures { result ≡ finished_on (session_at facts.now streams.now requests.now names.now) id }
 {
-    let seen = stream_in(facts, streams, requests, names, id);
-    finish(seen, id)
+    finish(stream_in(facts, streams, requests, names, id), id)
 }

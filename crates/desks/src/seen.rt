@@ -5,38 +5,38 @@ ghost use Rattle.image.specs.Cases.{session_state};
 ghost use Rattle.image.specs.Image.{cell, session_at};
 
 use image::{find_request_row, find_row, types_say};
-use tables::{RequestFound, StreamFound};
+use tables::{Request, Stream};
 use text::{RequestId, StreamId};
 
+#[tactic(auto, unfolding(image::specs::Cases::session_state))]
 pub fn connected_in(facts: &[u64; 10]) -> bool
     ensures { result ≡ connected_in (session_state (cell facts.now 2)) (eqb (cell facts.now 3) 1) }
 {
-    if facts[2] == 0 {
-        return false;
-    }
-    facts[3] == 1
+    facts[2] != 0 && facts[3] == 1
 }
 
+#[tactic(auto, using(crate::proofs::SeenLaws::stream_seen))]
 pub fn stream_in(
     facts: &[u64; 10],
     streams: &[[u64; 4]; 16],
     requests: &[[u64; 6]; 16],
     names: &[[u8; 128]; 34],
     id: StreamId,
-) -> StreamFound
+) -> Option<Stream>
     ensures { result ≡ stream_at (session_at facts.now streams.now requests.now names.now) id }
 {
     types_say(facts, streams, requests, names);
     find_row(streams, names, facts[8], id)
 }
 
+#[tactic(auto, using(crate::proofs::SeenLaws::request_seen))]
 pub fn request_in(
     facts: &[u64; 10],
     streams: &[[u64; 4]; 16],
     requests: &[[u64; 6]; 16],
     names: &[[u8; 128]; 34],
     id: RequestId,
-) -> RequestFound
+) -> Option<Request>
     ensures { result ≡ request_at (session_at facts.now streams.now requests.now names.now) id }
 {
     types_say(facts, streams, requests, names);

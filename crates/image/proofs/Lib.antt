@@ -1,3 +1,2 @@
-pub mod TestsLaws
 pub mod RowsLaws
 pub mod QuickLaws

@@ -1,34 +1,30 @@
 -- Rows read one by one, and rows found.
 use mathlib.Core.Path.{◌≡◌, refl, sym, ap, ◌∙◌}
-use Prim.Native.Nat.{ℕ, zero, suc, ◌+◌, ◌-◌, ◌≤◌, ◌<◌, min}
+use Prim.Native.Nat.{ℕ, zero, suc, ◌+◌, ◌-◌, ◌%◌, ◌≤◌, ◌<◌, min}
 use native.Mathlib.Numerals.{add-one}
 use native.Mathlib.Omega.{arith}
 use mathlib.Core.Logic.{inl, inr}
 use mathlib.Core.List.{List, [], ◌∷◌, ◌++◌, append-nil}
-use Rattle.std.specs.Prelude.{Some, None}
-use Rattle.std.proofs.lemmas.List.{drop-replicate}
-use lib.ListN.{length, length-append, length-replicate, take, drop, set, get_or, length-drop, replicate}
-use lib.Seq.{append_snoc, drop-cons, length-take-le, set_at, take_at, take-suc, take-take}
+use mathlib.Core.Bool.{cond, not}
+use lib.Dec.{eqb, ltb}
+use Rattle.std.specs.Prelude.{Option, Some, None, position}
+use Rattle.std.specs.List.{position_or_len}
+use Rattle.std.proofs.lemmas.List.Quantifiers.{position-Some}
+use lib.ListN.{length, length-append, length-replicate, take, drop, set, get_or, length-drop, length-take, replicate}
+use lib.Seq.{append_snoc, length-take-le, set_at, take_at, take-suc, take-take}
 use Rattle.numbers.proofs.PatternLaws.{le_or_lt}
 use Rattle.tables.specs.Tables.{look}
-use Rattle.tables.proofs.TablesLaws.{look_at, seek_next, take_in}
-use Rattle.image.specs.Image.{Wide, joined}
+use Rattle.tables.proofs.TablesLaws.{look_at, look_missing, missing, stands, take_in}
+use Rattle.image.specs.Image.{Wide, cell, joined}
 
 -- ---- rows joined with their names
 module _ {R A : Type 0} (f : R → List ℕ → A) where
-  joined_at : (rows : List R) (names : List (List ℕ)) (i : ℕ) (d : R) (e : A) → i < length rows → i < length names → get_or (joined f rows names) i e ≡ f (get_or rows i d) (get_or names i [])
+  pub joined_at : (rows : List R) (names : List (List ℕ)) (i : ℕ) (r : R) (d : A) → i < length rows → i < length names → get_or (joined f rows names) i d ≡ f (get_or rows i r) (get_or names i [])
   unfolding joined
-  joined_at [] names i d e h g = absurd (omega arith)
-  joined_at (r ∷ rows) [] i d e h g = absurd (omega arith)
-  joined_at (r ∷ rows) (n ∷ names) zero d e h g = refl
-  joined_at (r ∷ rows) (n ∷ names) (suc i) d e h g = joined_at rows names i d e (omega arith) (omega arith)
-
-  joined_has : (rows : List R) (names : List (List ℕ)) (i : ℕ) → i < length rows → i < length names → i < length (joined f rows names)
-  unfolding joined
-  joined_has [] names i h g = absurd (omega arith)
-  joined_has (r ∷ rows) [] i h g = absurd (omega arith)
-  joined_has (r ∷ rows) (n ∷ names) zero h g = omega arith
-  joined_has (r ∷ rows) (n ∷ names) (suc i) h g = omega (arith, joined_has rows names i (omega arith) (omega arith))
+  joined_at [] names i r d h g = absurd (omega arith)
+  joined_at (x ∷ rows) [] i r d h g = absurd (omega arith)
+  joined_at (x ∷ rows) (n ∷ names) zero r d h g = refl
+  joined_at (x ∷ rows) (n ∷ names) (suc i) r d h g = joined_at rows names i r d (omega arith) (omega arith)
 
   pub joined_length : (rows : List R) (names : List (List ℕ)) → length rows ≡ length names → length (joined f rows names) ≡ length rows
   unfolding joined
@@ -36,37 +32,12 @@ module _ {R A : Type 0} (f : R → List ℕ → A) where
   joined_length (r ∷ rows) [] e = absurd (omega (arith, e))
   joined_length (r ∷ rows) (n ∷ names) e = ap suc (joined_length rows names (omega (arith, e)))
 
-  module _ (rows : List R) (names : List (List ℕ)) (i : ℕ) (h : i < length rows) (g : i < length names) (row : R) (at : row ≡ get_or rows i row) (e : A) where
-    entry_at : e ≡ f row (get_or names i []) → e ≡ get_or (joined f rows names) i e
-    entry_at z = z ∙ ap (λ (r : R). f r (get_or names i [])) at ∙ sym (joined_at rows names i row e h g)
-
-    -- one row more is read, over a place of the table
-    pub read_step : (t old : List A) → t ≡ take i (joined f rows names) ++ drop i old → i < length old → e ≡ f row (get_or names i []) → set t i e ≡ take (i + 1) (joined f rows names) ++ drop (i + 1) old
-    read_step t old inv k z =
-        let all : List A = joined f rows names in
-        let has : i < length all = joined_has rows names i h g in
-        ap (λ (u : List A). set u i e) inv
-        ∙ ap (λ (u : List A). set (take i all ++ u) i e) (drop-cons old i e k)
-        ∙ set_at (take i all) (get_or old i e) (drop (suc i) old) e i (length-take-le i all (omega arith))
-        ∙ ap (λ (x : A). take i all ++ x ∷ drop (suc i) old) (entry_at z)
-        ∙ sym (append_snoc (take i all) (get_or all i e) (drop (suc i) old))
-        ∙ ap (λ (u : List A). u ++ drop (suc i) old) (sym (take-suc all i e has))
-        ∙ ap (λ (j : ℕ). take j all ++ drop j old) (sym (add-one i))
-
-    -- ---- the entry of a number
-    module _ (number : A → ℕ) (id : ℕ) (none_yet : look number id (take i (joined f rows names)) ≡ None) (z : e ≡ f row (get_or names i [])) where
-      pub find_here : (n : ℕ) → i < n → number e ≡ id → Some e ≡ look number id (take n (joined f rows names))
-      find_here n q w =
-          let all : List A = joined f rows names in
-          let has : i < length all = joined_has rows names i h g in
-          ap Some (entry_at z) ∙ sym (look_at number all n (min n (length all)) refl id i e (omega arith, (none_yet, ap number (sym (entry_at z)) ∙ w)))
-
-      pub find_next : (number e ≡ id → ⊥) → look number id (take (i + 1) (joined f rows names)) ≡ None
-      find_next w = seek_next number (joined f rows names) id i e (joined_has rows names i h g) none_yet (λ x. w (ap number (entry_at z) ∙ x))
-
 -- ---- sixteen names from a place on
 pub part_length : (b : ℕ) (names : List (List ℕ)) → b + 16 ≤ length names → length (take 16 (drop b names)) ≡ 16
 part_length b names h = length-take-le 16 (drop b names) (omega (arith, length-drop b names))
+
+pub all_length : {A : Type 0} (f : List ℕ → List ℕ → A) (rows names : List (List ℕ)) (b : ℕ) → length rows ≡ 16 → b + 16 ≤ length names → length (joined f rows (take 16 (drop b names))) ≡ 16
+all_length f rows names b h g = joined_length f rows (take 16 (drop b names)) (h ∙ sym (part_length b names g)) ∙ h
 
 -- ---- a table whose places past the count are blank
 module _ {A : Type 0} (l : List A) (h : length l ≡ 16) (blank : A) (c : ℕ) where
@@ -86,14 +57,60 @@ module _ {A : Type 0} (l : List A) (h : length l ≡ 16) (blank : A) (c : ℕ) w
       let m : 16 - n ≡ 16 - c = omega (arith, q) in
       λ j. take_in l c n (omega (arith, q, h)) j ++ replicate (m j) blank
 
-  -- over a table of blanks
-  pub table_is : (n : ℕ) → n ≡ min c 16 → (x : A) → x ≡ blank → (t : List A) → t ≡ take n l ++ drop n (replicate 16 x) → t ≡ take c l ++ replicate (16 - c) blank
-  table_is n q x e t z =
-      z ∙ ap (λ (y : A). take n l ++ drop n (replicate 16 y)) e ∙ ap (λ (u : List A). take n l ++ u) (drop-replicate n 16 blank) ∙ used_counted n q
+-- ---- rows, and the entries that are made of them
+module _ {R A : Type 0} (f : R → List ℕ → A) (rows : List R) (names : List (List ℕ)) (h : length rows ≡ 16) (g : length names ≡ 16) where
+  abbrev all : List A
+  all = joined f rows names
 
--- ---- rows with sixteen of the names
-pub all_length : {R A : Type 0} (f : R → List ℕ → A) (rows : List R) (names : List (List ℕ)) (b : ℕ) → length rows ≡ 16 → b + 16 ≤ length names → length (joined f rows (take 16 (drop b names))) ≡ 16
-all_length f rows names b h g = joined_length f rows (take 16 (drop b names)) (h ∙ sym (part_length b names g)) ∙ h
+  all_sixteen : length (joined f rows names) ≡ 16
+  all_sixteen = joined_length f rows names (h ∙ sym g) ∙ h
+
+  pub read_none : (blank b : A) → b ≡ blank → replicate 16 b ≡ take 0 (joined f rows names) ++ replicate (16 - 0) blank
+  read_none blank b e = ap (replicate 16) e
+
+  -- one row more is read, over a blank place
+  pub read_step :
+      (blank : A) (t : List A) (i : ℕ) (r : R) → t ≡ take i (joined f rows names) ++ replicate (16 - i) blank → i < 16 → r ≡ get_or rows i r → (e : A) → e ≡ f r (get_or names i [])
+      → set t i e ≡ take (i + 1) (joined f rows names) ++ replicate (16 - (i + 1)) blank
+  read_step blank t i r inv q y e z =
+      let k : ℕ = 16 - (i + 1) in
+      let m : 16 - i ≡ suc k = omega arith in
+      ap (λ (u : List A). set u i e) inv
+      ∙ ap (λ (j : ℕ). set (take i all ++ replicate j blank) i e) m
+      ∙ set_at (take i all) blank (replicate k blank) e i (length-take-le i all (omega (arith, all_sixteen)))
+      ∙ ap (λ (x : A). take i all ++ x ∷ replicate k blank) (z ∙ ap (λ (v : R). f v (get_or names i [])) y ∙ sym (joined_at f rows names i r e (omega (arith, h)) (omega (arith, g))))
+      ∙ sym (append_snoc (take i all) (get_or all i e) (replicate k blank))
+      ∙ ap (λ (u : List A). u ++ replicate k blank) (sym (take-suc all i e (omega (arith, all_sixteen))) ∙ ap (λ (j : ℕ). take j all) (sym (add-one i)))
+
+  pub read_all : (blank : A) (t : List A) (c n : ℕ) → n ≡ min c 16 → t ≡ take n (joined f rows names) ++ replicate (16 - n) blank → t ≡ take c (joined f rows names) ++ replicate (16 - c) blank
+  read_all blank t c n q e = e ∙ used_counted all all_sixteen blank c n q
+
+  -- ---- the entry of a number: the first row of that number
+  module _ (number : A → ℕ) (row_number : R → ℕ) (numbered : (row : R) (bytes : List ℕ) → number (f row bytes) ≡ row_number row) (id c : ℕ) (p : Option ℕ) (so : p ≡ position (λ r. eqb (row_number r) id) (take c rows)) where
+    same_place : (c : ℕ) (rows : List R) (names : List (List ℕ)) → length rows ≡ length names → position_or_len (λ r. eqb (row_number r) id) (take c rows) ≡ position_or_len (λ x. eqb (number x) id) (take c (joined f rows names))
+    unfolding joined
+    same_place zero rows names e = refl
+    same_place (suc c) [] names e = refl
+    same_place (suc c) (r ∷ rows) [] e = absurd (omega (arith, e))
+    same_place (suc c) (r ∷ rows) (n ∷ names) e =
+        let k = same_place c rows names (omega (arith, e)) in
+        let m = sym (numbered r n) in
+        λ i. cond (not (eqb (m i) id)) (1 + k i) 0
+
+    among_all : p ≡ position (λ x. eqb (number x) id) (take c (joined f rows names))
+    among_all =
+        let k = same_place c rows names (h ∙ sym g) in
+        let m : length (take c rows) ≡ length (take c all) = omega (arith, length-take c rows, length-take c all, h, all_sixteen) in
+        so ∙ (λ i. cond (ltb (k i) (m i)) (Some (k i)) None)
+
+    pub entry_none : (d : A) → p ≡ None → None ≡ look number id (take c (joined f rows names))
+    entry_none d e = sym (look_missing number all c _ refl id (missing number all c id d id refl p among_all e))
+
+    pub entry_found : (k : ℕ) (r : R) → p ≡ Some k → r ≡ get_or rows k r → (e : A) → e ≡ f r (get_or names k []) → Some e ≡ look number id (take c (joined f rows names))
+    entry_found k r e y x z =
+        let s = stands number all c id x id refl p among_all k e in
+        let q : k < 16 = omega (arith, s.0, all_sixteen) in
+        ap Some (z ∙ ap (λ (v : R). f v (get_or names k [])) y ∙ sym (joined_at f rows names k r x (omega (arith, h)) (omega (arith, g)))) ∙ sym (look_at number all c _ refl id k x s)
 
 -- ---- each row is as wide as its type says
 pub wide : (k : ℕ) (rows : List (List ℕ)) → ((i : ℕ) → i < length rows → length (get_or rows i []) ≡ k) → Wide k rows

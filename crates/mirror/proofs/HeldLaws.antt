@@ -4,7 +4,7 @@ use Prim.Native.Nat.{ℕ, zero, suc, ◌+◌, ◌-◌}
 use native.Mathlib.Omega.{arith}
 use mathlib.Core.Bool.{true, not}
 use mathlib.Core.List.{List, [], ◌∷◌, ◌++◌}
-use mathlib.Core.Option.{Option, some, none}
+use Rattle.std.specs.Prelude.{Option, Some, None, Result, Ok, Err}
 use lib.Dec.{eqb, leb, ltb}
 use lib.ListN.{drop, length, set, take}
 use borrow.Author.Tests.{ltb-true}
@@ -16,13 +16,13 @@ use Rattle.tables.specs.Tables.{closed as closing, has, look, remove, removed, s
 use Rattle.tables.specs.declared.requests.Request.{Request}
 use Rattle.tables.specs.declared.streams.Stream.{Stream}
 use Rattle.tables.proofs.SoundLaws.{both}
+use Rattle.wishes.specs.declared.outcome.Refusal.{Refusal}
 use Rattle.wishes.specs.declared.wish.PlayArguments.{PlayArguments}
-use Rattle.wishes.specs.declared.wish.PlayArguments.TheVariants.{TooFew as PlayTooFew, KeyNoString as PlayKeyNoString, Good as PlayGood}
+use Rattle.wishes.specs.declared.wish.PlayFault.{PlayFault}
 use Rattle.wishes.specs.declared.wish.PublishArguments.{PublishArguments}
-use Rattle.wishes.specs.declared.wish.PublishArguments.TheVariants.{TooFew, KeyNoString, ModeNoString, ModeUnknown, Good as PublishGood}
-use Rattle.wishes.specs.declared.wish.Want.{Want}
-use Rattle.wishes.specs.declared.wish.Want.TheVariants.{Nothing, Refused, CreateStream, CloseStream, DeleteStream, Metadata, PingRequest, PingResponse}
-use Rattle.wishes.specs.declared.wish.Want.TheVariants.{Connect as ConnectWant, Publish as PublishWant, Play as PlayWant}
+use Rattle.wishes.specs.declared.wish.PublishFault.{PublishFault}
+use Rattle.wishes.specs.declared.wish.Wish.{Wish}
+use Rattle.wishes.specs.declared.wish.Wish.TheVariants.{Nothing, Connect, CreateStream, CloseStream, DeleteStream, Metadata, Play, PingRequest, PingResponse, Publish}
 use Rattle.session.specs.Changes.{applied, applied_by, dropping, filing_connect, filing_of, granting, joining, no_change, removing, setting}
 use Rattle.session.specs.State.{following, fresh_session, with_changed, with_request, with_stream, without_request, without_stream}
 use Rattle.session.specs.declared.changes.Change.{Change}
@@ -79,8 +79,8 @@ module _ {A : Type 0} (p : A → Type 0) where
 
     all_closed : (rest past l : List A) (o : Option A) → All p rest → p blank → All p past → All p l → All p (closing number blank rest past l o)
     unfolding All
-    all_closed rest past l none f k g h = h
-    all_closed rest past l (some x) f k g h = all_append rest (blank ∷ past) f (k, g)
+    all_closed rest past l None f k g h = h
+    all_closed rest past l (Some x) f k g h = all_append rest (blank ∷ past) f (k, g)
 
     all_removed : (n : ℕ) (l : List A) → p blank → All p l → All p (removed number blank id n l)
     unfolding removed
@@ -165,30 +165,26 @@ module _ (s : Session) (h : Held s) where
   held_applied c t k = numbers c.effect c.stream c.request k (tidy_applied s c h.tidy t)
 
 -- ---- the stream of a request that a message files is the message's
-publish_on_lem : (y : StreamId) (a : PublishArguments) (name : Name) (n : ℕ) → stream_in (publish_ask y a name) ≡ some n → n ≡ y.0
-publish_on_lem y TooFew name n e = absurd (not_none _ _ e refl)
-publish_on_lem y KeyNoString name n e = absurd (not_none _ _ e refl)
-publish_on_lem y ModeNoString name n e = absurd (not_none _ _ e refl)
-publish_on_lem y ModeUnknown name n e = absurd (not_none _ _ e refl)
-publish_on_lem y (PublishGood mode) name n e = same_found _ _ _ e refl
+publish_on : (y : StreamId) (a : Result PublishArguments PublishFault) (n : ℕ) → stream_in (publish_ask y a) ≡ Some n → n ≡ y.0
+publish_on y (Ok a) n e = same_found _ _ _ e refl
+publish_on y (Err f) n e = absurd (not_none _ _ e refl)
 
-play_on : (y : StreamId) (a : PlayArguments) (name : Name) (n : ℕ) → stream_in (play_ask y a name) ≡ some n → n ≡ y.0
-play_on y PlayTooFew name n e = absurd (not_none _ _ e refl)
-play_on y PlayKeyNoString name n e = absurd (not_none _ _ e refl)
-play_on y (PlayGood start duration reset) name n e = same_found _ _ _ e refl
+play_on : (y : StreamId) (a : Result PlayArguments PlayFault) (n : ℕ) → stream_in (play_ask y a) ≡ Some n → n ≡ y.0
+play_on y (Ok a) n e = same_found _ _ _ e refl
+play_on y (Err f) n e = absurd (not_none _ _ e refl)
 
-ask_on : (y : StreamId) (v : Want) (name : Name) (n : ℕ) → stream_in (want_ask y v name) ≡ some n → n ≡ y.0
-ask_on y Nothing name n e = absurd (not_none _ _ e refl)
-ask_on y (Refused o) name n e = absurd (not_none _ _ e refl)
-ask_on y (ConnectWant t encoding) name n e = absurd (not_none _ _ e refl)
-ask_on y (CreateStream t) name n e = absurd (not_none _ _ e refl)
-ask_on y (CloseStream x) name n e = absurd (not_none _ _ e refl)
-ask_on y (DeleteStream x) name n e = absurd (not_none _ _ e refl)
-ask_on y (PublishWant t a) name n e = publish_on_lem y a name n e
-ask_on y (PlayWant t a) name n e = play_on y a name n e
-ask_on y Metadata name n e = absurd (not_none _ _ e refl)
-ask_on y (PingRequest v) name n e = absurd (not_none _ _ e refl)
-ask_on y (PingResponse v) name n e = absurd (not_none _ _ e refl)
+ask_on : (y : StreamId) (w : Result Wish Refusal) (n : ℕ) → stream_in (want_ask y w) ≡ Some n → n ≡ y.0
+ask_on y (Ok Nothing) n e = absurd (not_none _ _ e refl)
+ask_on y (Ok (Connect t encoding app)) n e = absurd (not_none _ _ e refl)
+ask_on y (Ok (CreateStream t)) n e = absurd (not_none _ _ e refl)
+ask_on y (Ok (CloseStream x)) n e = absurd (not_none _ _ e refl)
+ask_on y (Ok (DeleteStream x)) n e = absurd (not_none _ _ e refl)
+ask_on y (Ok (Publish t a)) n e = publish_on y a n e
+ask_on y (Ok (Play t a)) n e = play_on y a n e
+ask_on y (Ok (Metadata read)) n e = absurd (not_none _ _ e refl)
+ask_on y (Ok (PingRequest v)) n e = absurd (not_none _ _ e refl)
+ask_on y (Ok (PingResponse v)) n e = absurd (not_none _ _ e refl)
+ask_on y (Err r) n e = absurd (not_none _ _ e refl)
 
 abbrev Aims : Doing → Type 0
 Aims (Wants y w) = Fits y.0
@@ -221,7 +217,7 @@ held_kept : {s : Session} {g : Doing} {d : Decision} → Did s g d → Aims g �
 held_kept {s} (still g d c n f k) v w h = rw c (held_applied s h no_change tt tt)
 held_kept {s} (made q m k) v w h = held_applied s h _ tt tt
 held_kept {s} (files {y = y} {w = want} {r = r} f i k a) v w h =
-    let z = ask_on y want.want want.name r.stream.0 (ap stream_in a) in
+    let z = ask_on y want r.stream.0 (ap stream_in a) in
     held_applied s h (filing_of r) tt (omega (arith, z, v))
 held_kept {s} (connects {r = r} {encoding = encoding} f i k a) v w h = let z = a.1 in held_applied s h (filing_connect r encoding) tt (omega (arith, z))
 held_kept {s} (closed {e = e} q c f k) v w h = rw k.change (held_applied s h (setting (created e.id)) tt tt)

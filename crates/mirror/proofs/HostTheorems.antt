@@ -6,11 +6,12 @@ use mathlib.Core.Bool.{Bool, true, false}
 use mathlib.Core.List.{List, [], ◌∷◌}
 use Rattle.numbers.specs.Choose.{pick}
 use Rattle.tables.proofs.SoundLaws.{both}
-use Rattle.wishes.specs.Outcome.{number_of}
-use Rattle.wishes.specs.declared.outcome.Outcome.{Outcome}
-use Rattle.wishes.specs.declared.outcome.Outcome.TheVariants.{Done}
+use Rattle.std.specs.Prelude.{Option, Some, None, Result, Ok, Err}
+use Rattle.wishes.specs.Outcome.{Outcome, number_of}
+use Rattle.wishes.specs.declared.outcome.Refusal.{Refusal}
 use Rattle.text.specs.declared.ids.StreamId.{StreamId}
 use Rattle.session.specs.declared.session.Session.{Session}
+use Rattle.streams.specs.declared.streams.Frame.{Frame}
 use Rattle.replies.specs.declared.answer.Answer.{Answer}
 use Rattle.messages.specs.Messages.{handle_media, handle_message, media_event}
 use Rattle.messages.specs.declared.messages.MediaKind.{MediaKind}
@@ -22,11 +23,11 @@ use Rattle.written.specs.Kept.{image_of, kept_at}
 use Rattle.written.proofs.ImageTheorems.{image_again, image_kept, image_sound}
 use Rattle.parts.specs.Parts.{Shown}
 use Rattle.arrays.specs.Turns.{hosted, keeps, kept, session_in, started, told as tells, turned}
-use Rattle.host.specs.Frames.{frame_shown, hosted_media, media_of, media_told}
-use Rattle.story.specs.Steps.{Call, accept, finish, media, message, reject, send_audio, send_metadata, send_ping, send_video, step}
+use Rattle.host.specs.Frames.{hosted_media, media_of, media_told}
+use Rattle.story.specs.Steps.{Call, accept, finish, media, message, reject, send_audio, send_metadata, send_ping, send_video, shown, step}
 use Rattle.story.specs.Runs.{Start, after, told}
 use Rattle.story.specs.History.{joined, last_effective}
-use Rattle.story.specs.Stories.{story_frame}
+use Rattle.story.specs.Stories.{frame_in, story_frame}
 use Rattle.story.proofs.SessionLaws.{Good}
 use Rattle.story.proofs.StoryTheorems.{frame_by_story, media_shows}
 use Rattle.story.proofs.RunLaws.{good_after, start_fresh}
@@ -68,8 +69,7 @@ never : {A : Type 0} (b : Bool) → b ≡ true → b ≡ false → A
 never true e q = let z : ◌≡◌ {A = ℕ} 0 1 = cc in absurd (omega arith)
 never false e q = let z : ◌≡◌ {A = ℕ} 0 1 = cc in absurd (omega arith)
 
-kept_done : (also : ℕ) (o : Outcome) → o ≡ Done → keeps also (number_of o) ≡ true
-unfolding keeps
+kept_done : (also : ℕ) (o : Outcome) → o ≡ Ok tt → keeps also (number_of o) ≡ true
 kept_done also o e = ap (λ (x : Outcome). keeps also (number_of x)) e
 
 left_same : (also : ℕ) (s : Session) (out : List ℕ) (p : Answer × List ℕ) → Leaves s out p → keeps also (number_of p.0.outcome) ≡ false → p.0.session ≡ s
@@ -77,7 +77,6 @@ left_same also s out p (done e) q = never _ (kept_done also p.0.outcome e) q
 left_same also s out p (left o e) q = ap (λ (x : Answer × List ℕ). x.0.session) e
 
 accept_same : (s : Session) (n : _) (out : List ℕ) (p : Answer × List ℕ) → AcceptLeaves s n out p → keeps 11 (number_of p.0.outcome) ≡ false → p.0.session ≡ s
-unfolding keeps
 accept_same s n out p (leaves f) q = left_same 11 s out p f q
 accept_same s n out p (removed action stream e) q = never (keeps 11 (number_of p.0.outcome)) (ap (λ (x : Answer × List ℕ). keeps 11 (number_of x.0.outcome)) e) q
 
@@ -130,12 +129,18 @@ module _ (b : Start) (cs : List Call) (k : AllNarrow cs) where
   shows Audio x timestamp = refl
   shows Video x timestamp = refl
 
+  -- what is told of a frame is what the session's answer shows
+  told_shown : (a : Result (Option Frame) Refusal) → media_told a ≡ (number_of (shown a).outcome, (story_told (frame_in (shown a))).1)
+  told_shown (Ok (Some f)) = refl
+  told_shown (Ok None) = refl
+  told_shown (Err r) = refl
+
   by_story : (kind : MediaKind) (x : StreamId) (timestamp : ℕ)
       → media_told (handle_media (after b cs) kind x timestamp) ≡ story_told (story_frame (joined (told b cs)) (last_effective x.0 (told b cs)) (media_event kind timestamp))
-  unfolding media_told step
+  unfolding step
   by_story kind x timestamp =
       let p = frame_by_story b cs (media kind x timestamp) x (media_event kind timestamp) (media_shows kind x timestamp) in
-      λ i. (number_of (p.1 i), frame_shown (p.0 i).event (p.0 i).app (p.0 i).key)
+      told_shown (handle_media (after b cs) kind x timestamp) ∙ (λ i. (number_of (p.1 i), (story_told (p.0 i)).1))
 
   -- audio or video through `chungvator_handle_media`, after any run through the host's calls: the number is 0, and event, app and key are those of its own stream's story
   pub host_own_story : (kind : MediaKind) (x : StreamId) (timestamp : ℕ)

@@ -1,16 +1,17 @@
 -- A run through a host's calls: what stands in its arrays after each of them.
 use Rattle.std.specs.Prelude.{ℕ, ◌<◌, List, [], ◌∷◌}
 use Rattle.session.specs.declared.session.Session.{Session}
-use Rattle.streams.specs.declared.streams.Frame.{Frame}
 use Rattle.messages.specs.Messages.{handle_message}
 use Rattle.messages.specs.declared.messages.MediaKind.{MediaKind}
 use Rattle.messages.specs.declared.messages.MediaKind.TheVariants.{Audio, Video}
 use Rattle.calls.specs.Calls.{accepting, finishes, rejecting}
-use Rattle.image.specs.Image.{Arrays}
+use Rattle.image.specs.Image.{Arrays, cell}
 use Rattle.arrays.specs.Turns.{hosted, started}
-use Rattle.host.specs.Frames.{FrameShown, frame_shown}
+use Rattle.parts.specs.Parts.{event_numbers, media_shown}
+use Rattle.host.specs.Frames.{FrameShown}
 use Rattle.story.specs.Steps.{Call, accept, finish, media, message, reject, send_audio, send_metadata, send_ping, send_video}
 use Rattle.story.specs.Runs.{Start, start_of}
+use Rattle.story.specs.Stories.{Raised}
 
 -- the arrays after a call, as the contract of the host's function says; a frame and a send only read them
 unfoldable pub handed : Arrays → Call → Arrays
@@ -51,5 +52,5 @@ type_byte Audio = 8
 type_byte Video = 9
 
 -- what a host is told of a frame: the number 0, the event with its timestamp, the app and the key
-abbrev pub story_told : Frame → ℕ × FrameShown
-story_told f = (0, frame_shown f.event f.app f.key)
+abbrev pub story_told : Raised → ℕ × FrameShown
+story_told f = (0, media_shown (cell (event_numbers f.event) 0) (cell (event_numbers f.event) 9) f.app f.key)

@@ -1,9 +1,9 @@
 // An event as ten numbers.
-ghost use Rattle.std.specs.Prelude.{◌≡◌};
+ghost use Rattle.std.specs.Prelude.{◌≡◌, Some};
 ghost use Rattle.parts.specs.Parts.{duration_numbers, event_numbers, plain_event, start_numbers};
 
 use image::{flag_number, mode_number};
-use numbers::{PlayDuration, PlayStartValue};
+use numbers::PlayStartValue;
 use session::Event;
 
 // An event that uses none of the numbers of a play.
@@ -23,20 +23,19 @@ fn start_numbers(start: PlayStartValue) -> [u64; 2]
     }
 }
 
-fn duration_numbers(duration: PlayDuration) -> [u64; 2]
+fn duration_numbers(duration: Option<u32>) -> [u64; 2]
     ensures { result ≡ duration_numbers duration }
 {
     match duration {
-        PlayDuration::Unlimited => [0, 0],
-        PlayDuration::Seconds(n) => [1, n as u64],
+        None => [0, 0],
+        Some(n) => [1, n as u64],
     }
 }
 
-pub fn event_numbers(event: Event) -> [u64; 10]
-    ensures { result ≡ event_numbers event }
+fn numbers_of(event: Event) -> [u64; 10]
+    ensures { result ≡ event_numbers (Some event) }
 {
     match event {
-        Event::NoEvent => plain_event(0, 0, 0, 0),
         Event::ConnectionRequested(request) => plain_event(1, request.0 as u64, 0, 0),
         Event::PublishStreamRequested { request, mode } => {
             plain_event(2, request.0 as u64, mode_number(mode), 0)
@@ -70,5 +69,15 @@ pub fn event_numbers(event: Event) -> [u64; 10]
         Event::AudioDataReceived { timestamp } => plain_event(7, 0, 0, timestamp as u64),
         Event::VideoDataReceived { timestamp } => plain_event(8, 0, 0, timestamp as u64),
         Event::PingResponseReceived { timestamp } => plain_event(9, 0, 0, timestamp as u64),
+    }
+}
+
+// 0 is no event.
+pub fn event_numbers(event: Option<Event>) -> [u64; 10]
+    ensures { result ≡ event_numbers event }
+{
+    match event {
+        Some(event) => numbers_of(event),
+        None => plain_event(0, 0, 0, 0),
     }
 }

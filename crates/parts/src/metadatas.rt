@@ -1,106 +1,134 @@
 // Metadata as two rows: which of the eleven are set, and their values, of the encoder its length.
-ghost use Rattle.std.specs.Prelude.{◌≡◌, ◌%◌};
-ghost use Rattle.parts.specs.Parts.{metadata_of, metadata_rows, set_flags, values_with};
+ghost use Rattle.std.specs.Prelude.{◌≡◌, ◌%◌, eqb, option_map};
+ghost use Rattle.text.specs.declared.names.Name.{Name};
+ghost use Rattle.image.specs.Cases.{flag_number};
+ghost use Rattle.parts.specs.Parts.{encoder_bytes, field_numbers, given, metadata_of, metadata_rows, rate_number, rate_of};
 
-use image::flag_number;
+use image::{flag_number, short_number};
 use metadata::StreamMetadata;
 use numbers::{bits_of_f32, double_of_single, f32_of, single_of};
-use text::Name;
+use text::{Name, empty_name};
 
-fn set_flags(m: StreamMetadata) -> [u64; 11]
-    ensures { result ≡ set_flags m }
-{
-    [
-        flag_number(m.has_video_width),
-        flag_number(m.has_video_height),
-        flag_number(m.has_video_codec_id),
-        flag_number(m.has_video_bitrate_kbps),
-        flag_number(m.has_video_frame_rate),
-        flag_number(m.has_audio_codec_id),
-        flag_number(m.has_audio_bitrate_kbps),
-        flag_number(m.has_audio_sample_rate),
-        flag_number(m.has_audio_channels),
-        flag_number(m.has_audio_is_stereo),
-        flag_number(m.has_encoder),
-    ]
-}
-
-fn wide(n: u32) -> u64
+fn wide(n: Option<u32>) -> Option<u64>
     ensures { result ≡ n }
 {
-    n as u64
+    Some(u64::from(n?))
 }
 
-fn wide_length(n: usize) -> u64
-    ensures { result ≡ n }
+fn rate_bits(rate: Option<f32>) -> Option<u64>
+    ensures { result ≡ option_map rate_number rate }
 {
-    n as u64
+    Some(u64::from(single_of(bits_of_f32(rate?))))
 }
 
-// The frame rate's bits and the stereo flag stand beside.
-fn values_with(m: StreamMetadata, rate: u32, stereo: u64) -> [u64; 11]
-    ensures { result ≡ values_with m rate stereo }
+fn flag(flag: Option<bool>) -> Option<u64>
+    ensures { result ≡ option_map flag_number flag }
 {
-    let encoder = m.encoder;
+    Some(flag_number(flag?))
+}
+
+fn text_length(name: Option<Name>) -> Option<u64>
+    ensures { result ≡ option_map (λ (n : Name). n.len) name }
+{
+    Some(name?.len as u64)
+}
+
+// The eleven, in the order of both rows.
+#[tactic(auto, unfolding(crate::specs::Parts::field_numbers))]
+fn field_numbers(m: StreamMetadata) -> [Option<u64>; 11]
+    ensures { result ≡ field_numbers m }
+{
     [
         wide(m.video_width),
         wide(m.video_height),
         wide(m.video_codec_id),
         wide(m.video_bitrate_kbps),
-        wide(rate),
+        rate_bits(m.video_frame_rate),
         wide(m.audio_codec_id),
         wide(m.audio_bitrate_kbps),
         wide(m.audio_sample_rate),
         wide(m.audio_channels),
-        stereo,
-        wide_length(encoder.len),
+        flag(m.audio_is_stereo),
+        text_length(m.encoder),
     ]
 }
 
+#[tactic(auto, unfolding(crate::specs::Parts::metadata_rows))]
 pub fn metadata_rows(m: StreamMetadata) -> [[u64; 11]; 2]
     ensures { result ≡ metadata_rows m }
 {
-    let rate = single_of(bits_of_f32(m.video_frame_rate));
-    let stereo = flag_number(m.audio_is_stereo);
-    let flags = set_flags(m);
-    let values = values_with(m, rate, stereo);
-    [flags, values]
+    let fields = field_numbers(m);
+    let mut set = [0; 11];
+    let mut values = [0; 11];
+    for i in 0..11 {
+        set[i] = flag_number(fields[i].is_some());
+        values[i] = fields[i].unwrap_or(0);
+    }
+    [set, values]
 }
 
-fn low(n: u64) -> u32
-    ensures { result ≡ n % 4294967296 }
+pub fn encoder_bytes(m: StreamMetadata) -> [u8; 128]
+    ensures { result ≡ encoder_bytes m }
 {
-    (n % 4294967296) as u32
+    m.encoder.unwrap_or(empty_name()).bytes
 }
 
-// A flag is set where it is 1, and a number is taken modulo 2^32.
+// A field is set where its flag is 1, and a number is taken modulo 2^32.
+fn whole(set: u64, value: u64) -> Option<u32>
+    ensures { result ≡ given set (value % 4294967296) }
+{
+    if set == 1 {
+        Some(short_number(value))
+    } else {
+        None
+    }
+}
+
+fn rate_of(set: u64, value: u64) -> Option<f32>
+    ensures { result ≡ given set (rate_of value) }
+{
+    if set == 1 {
+        Some(f32_of(double_of_single(short_number(value))))
+    } else {
+        None
+    }
+}
+
+fn is_one(set: u64, value: u64) -> Option<bool>
+    ensures { result ≡ given set (eqb value 1) }
+{
+    if set == 1 { Some(value == 1) } else { None }
+}
+
+fn name_of(set: u64, bytes: [u8; 128], len: u64) -> Option<Name>
+    ensures { result ≡ given set (record { bytes = bytes; len = len }) }
+{
+    if set == 1 {
+        Some(Name {
+            bytes,
+            len: len as usize,
+        })
+    } else {
+        None
+    }
+}
+
+// What stands beside a flag that is not 1 is not read.
+#[tactic(auto, unfolding(crate::specs::Parts::metadata_of))]
 pub fn metadata_of(set: [u64; 11], values: [u64; 11], bytes: [u8; 128]) -> StreamMetadata
     ensures { result ≡ metadata_of set values bytes }
 {
-    let len = values[10] as usize;
-    let rate = f32_of(double_of_single(low(values[4])));
     StreamMetadata {
-        has_video_width: set[0] == 1,
-        has_video_height: set[1] == 1,
-        has_video_codec_id: set[2] == 1,
-        has_video_bitrate_kbps: set[3] == 1,
-        has_video_frame_rate: set[4] == 1,
-        has_audio_codec_id: set[5] == 1,
-        has_audio_bitrate_kbps: set[6] == 1,
-        has_audio_sample_rate: set[7] == 1,
-        has_audio_channels: set[8] == 1,
-        has_audio_is_stereo: set[9] == 1,
-        has_encoder: set[10] == 1,
-        video_width: low(values[0]),
-        video_height: low(values[1]),
-        video_codec_id: low(values[2]),
-        video_bitrate_kbps: low(values[3]),
-        video_frame_rate: rate,
-        audio_codec_id: low(values[5]),
-        audio_bitrate_kbps: low(values[6]),
-        audio_sample_rate: low(values[7]),
-        audio_channels: low(values[8]),
-        audio_is_stereo: values[9] == 1,
-        encoder: Name { bytes, len },
+        video_width: whole(set[0], values[0]),
+        video_height: whole(set[1], values[1]),
+        video_codec_id: whole(set[2], values[2]),
+        video_bitrate_kbps: whole(set[3], values[3]),
+        video_frame_rate: rate_of(set[4], values[4]),
+        audio_codec_id: whole(set[5], values[5]),
+        audio_bitrate_kbps: whole(set[6], values[6]),
+        audio_sample_rate: whole(set[7], values[7]),
+        audio_channels: whole(set[8], values[8]),
+        audio_is_stereo: is_one(set[9], values[9]),
+        encoder: name_of(set[10], bytes, values[10]),
     }
 }

@@ -4,27 +4,27 @@ ghost use Rattle.metadata.specs.Metadata.{no_metadata};
 ghost use Rattle.parts.specs.Parts.{answer_numbers, media_shown, shown_parts};
 
 use crate::events::event_numbers;
-use crate::metadatas::metadata_rows;
+use crate::metadatas::{encoder_bytes, metadata_rows};
 use crate::outcomes::named_by;
 use metadata::StreamMetadata;
 use session::Event;
 use text::Name;
 use wishes::{Outcome, number_of};
 
+#[tactic(auto, unfolding(crate::specs::Parts::answer_numbers))]
 fn answer_numbers(
     outcome: Outcome,
-    event: Event,
+    event: Option<Event>,
     app_len: usize,
     key_len: usize,
     count: usize,
 ) -> [u64; 16]
     ensures { result ≡ answer_numbers outcome event app_len key_len count }
 {
-    let n = number_of(outcome);
     let o = named_by(outcome);
     let e = event_numbers(event);
     [
-        n as u64,
+        number_of(outcome) as u64,
         o[0],
         o[1],
         count as u64,
@@ -43,12 +43,13 @@ fn answer_numbers(
     ]
 }
 
+#[tactic(auto, unfolding(crate::specs::Parts::shown_parts))]
 pub fn show_answer(
     numbers: &mut [u64; 16],
     described: &mut [[u64; 11]; 2],
     words: &mut [[u8; 128]; 3],
     outcome: Outcome,
-    event: Event,
+    event: Option<Event>,
     app: Name,
     key: Name,
     metadata: StreamMetadata,
@@ -56,41 +57,34 @@ pub fn show_answer(
 )
     ensures { (numbers.new, (described.new, words.new)) ≡ shown_parts outcome event app key metadata count }
 {
-    let encoder = metadata.encoder;
-    let app_bytes = app.bytes;
-    let key_bytes = key.bytes;
-    let encoder_bytes = encoder.bytes;
-    let a = answer_numbers(outcome, event, app.len, key.len, count);
-    let m = metadata_rows(metadata);
-    let w = [app_bytes, key_bytes, encoder_bytes];
-    *numbers = a;
-    *described = m;
-    *words = w;
+    *numbers = answer_numbers(outcome, event, app.len, key.len, count);
+    *described = metadata_rows(metadata);
+    let (app, key) = (app.bytes, key.bytes);
+    *words = [app, key, encoder_bytes(metadata)];
 }
 
 // The same with no metadata: nothing is turned into numbers.
+#[tactic(auto, using(crate::proofs::PartsLaws::no_rows), unfolding(crate::specs::Parts::shown_parts))]
 pub fn show_plain(
     numbers: &mut [u64; 16],
     described: &mut [[u64; 11]; 2],
     words: &mut [[u8; 128]; 3],
     outcome: Outcome,
-    event: Event,
+    event: Option<Event>,
     app: Name,
     key: Name,
     count: usize,
 )
     ensures { (numbers.new, (described.new, words.new)) ≡ shown_parts outcome event app key no_metadata count }
 {
-    let app_bytes = app.bytes;
-    let key_bytes = key.bytes;
-    let a = answer_numbers(outcome, event, app.len, key.len, count);
-    let w = [app_bytes, key_bytes, [0; 128]];
-    *numbers = a;
+    *numbers = answer_numbers(outcome, event, app.len, key.len, count);
     *described = [[0; 11]; 2];
-    *words = w;
+    let (app, key) = (app.bytes, key.bytes);
+    *words = [app, key, [0; 128]];
 }
 
 // Of a frame: the event's number, its timestamp, and the two lengths.
+#[tactic(auto, unfolding(crate::specs::Parts::media_shown))]
 pub fn show_media(
     numbers: &mut [u64; 4],
     words: &mut [[u8; 128]; 2],
@@ -101,10 +95,7 @@ pub fn show_media(
 )
     ensures { (numbers.new, words.new) ≡ media_shown what timestamp app key }
 {
-    let app_bytes = app.bytes;
-    let key_bytes = key.bytes;
-    let a = [what, timestamp, app.len as u64, key.len as u64];
-    let w = [app_bytes, key_bytes];
-    *numbers = a;
-    *words = w;
+    *numbers = [what, timestamp, app.len as u64, key.len as u64];
+    let (app, key) = (app.bytes, key.bytes);
+    *words = [app, key];
 }

@@ -1,8 +1,7 @@
 // What a call tells.
-ghost use Rattle.std.specs.Prelude.{◌≡◌};
+ghost use Rattle.std.specs.Prelude.{◌≡◌, None};
 ghost use Rattle.text.specs.Names.{empty_name};
 ghost use Rattle.metadata.specs.Metadata.{no_metadata};
-ghost use Rattle.session.specs.declared.decision.Event.TheVariants.{NoEvent};
 ghost use Rattle.parts.specs.Told.{is_set, told_of};
 
 use crate::shown::{show_answer, show_plain};
@@ -15,19 +14,17 @@ use wishes::{Outcome, number_of};
 pub fn is_set(n: u32) -> bool
     ensures { result ≡ is_set n }
 {
-    if n == 0 {
-        return false;
-    }
-    true
+    n != 0
 }
 
 // The parts, and the outcome's number.
+#[tactic(auto, unfolding(crate::specs::Told::told_of))]
 fn tell(
     numbers: &mut [u64; 16],
     described: &mut [[u64; 11]; 2],
     words: &mut [[u8; 128]; 3],
     outcome: Outcome,
-    event: Event,
+    event: Option<Event>,
     app: Name,
     key: Name,
     metadata: StreamMetadata,
@@ -42,12 +39,13 @@ fn tell(
 }
 
 // The same with no metadata.
+#[tactic(auto, unfolding(crate::specs::Told::told_of))]
 pub fn tell_plain(
     numbers: &mut [u64; 16],
     described: &mut [[u64; 11]; 2],
     words: &mut [[u8; 128]; 3],
     outcome: Outcome,
-    event: Event,
+    event: Option<Event>,
     app: Name,
     key: Name,
     count: usize,
@@ -66,17 +64,16 @@ pub fn tell_quiet(
     outcome: Outcome,
     count: usize,
 ) -> u32
-    ensures { (result, (numbers.new, (described.new, words.new))) ≡ told_of outcome NoEvent empty_name empty_name no_metadata count }
+    ensures { (result, (numbers.new, (described.new, words.new))) ≡ told_of outcome None empty_name empty_name no_metadata count }
 {
-    let empty = empty_name();
     tell_plain(
         numbers,
         described,
         words,
         outcome,
-        Event::NoEvent,
-        empty,
-        empty,
+        None,
+        empty_name(),
+        empty_name(),
         count,
     )
 }
@@ -90,12 +87,15 @@ pub fn tell_decision(
 ) -> u32
     ensures { (result, (numbers.new, (described.new, words.new))) ≡ told_of decision.outcome decision.event decision.app decision.key decision.metadata count }
 {
-    let outcome = decision.outcome;
-    let event = decision.event;
-    let app = decision.app;
-    let key = decision.key;
-    let metadata = decision.metadata;
     tell(
-        numbers, described, words, outcome, event, app, key, metadata, count,
+        numbers,
+        described,
+        words,
+        decision.outcome,
+        decision.event,
+        decision.app,
+        decision.key,
+        decision.metadata,
+        count,
     )
 }

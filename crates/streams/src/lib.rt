@@ -3,4 +3,6 @@
 
 mod streams;
 
-pub use streams::{Frame, change_metadata, close_stream, create_stream, delete_stream, frame_of};
+pub use streams::{
+    Frame, change_metadata, close_stream, create_stream, delete_stream, frame_of, show_frame,
+};

@@ -127,7 +127,8 @@ pub fn change_metadata(desk: Desk, read: Result<StreamMetadata, LongEncoder>) ->
     describe(stream.state, desk.app, stream.key, read)
 }
 
-fn show_frame(state: StreamState, event: Event, app: Name, key: Name) -> Option<Frame>
+// An event only where the stream is publishing.
+pub fn show_frame(state: StreamState, event: Event, app: Name, key: Name) -> Option<Frame>
     ensures { result ≡ shown state event app key }
 {
     match state {

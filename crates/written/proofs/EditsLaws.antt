@@ -1,17 +1,18 @@
 -- What the code does, step by step.
 use mathlib.Core.Path.{◌≡◌, refl, sym, ap, ◌∙◌}
 use mathlib.Core.Logic.{inl, inr}
-use Prim.Native.Nat.{ℕ, suc, ◌+◌, ◌≤◌, ◌<◌}
+use Prim.Native.Nat.{ℕ, suc, ◌+◌, ◌-◌, ◌≤◌, ◌<◌}
 use native.Mathlib.Omega.{arith}
 use mathlib.Core.Bool.{Bool, true, false, cond, not}
 use mathlib.Core.List.{List, [], ◌∷◌, ◌++◌, append_assoc, append-nil}
 use lib.Dec.{eqb, ltb}
-use lib.ListN.{drop, drop_of_length-le, get_or, length, length-append, length-drop, length-set, set, take}
-use lib.Seq.{drop_at, length-take-le, take_at}
+use lib.ListN.{drop, drop_of_length-le, get_or, length, length-append, length-drop, length-set, length-take, set, take}
+use lib.Seq.{drop-cons, drop_at, length-take-le, set_at, take_at}
 use borrow.Author.Tests.{le-ltb, lt-ltb, ltb-false}
-use Rattle.std.specs.List.{position, position_or_len}
+use Rattle.std.specs.List.{copy_within, position, position_or_len}
 use Rattle.std.specs.Option.{unwrap_or}
 use Rattle.std.specs.Prelude.{Option, Some, None}
+use Rattle.std.proofs.lemmas.List.{drop-take}
 use Rattle.std.proofs.lemmas.List.Sums.{prefix_len-le-length}
 use Rattle.numbers.specs.Choose.{pick}
 use Rattle.numbers.proofs.PatternLaws.{le_or_lt}
@@ -63,6 +64,20 @@ module _ {A : Type 0} (blank : A) (n : ℕ) (x : A) (l : List A) where
 
     pub cut_out : n ≤ p → l ≡ edited blank (Cut p) n x l
     cut_out h = simp (le-ltb p n h)
+
+-- a removal by one copy
+pub shift_copied : {A : Type 0} (blank : A) (n : ℕ) (l : List A) (p : ℕ) → p < n → n ≤ length l → set (copy_within l (p + 1) n p) (n - 1) blank ≡ shifted blank p n l
+unfolding shifted
+shift_copied {A} blank n l p h g =
+    let j : ℕ = p + (n - (p + 1)) in
+    let moved : List A = take (n - (p + 1)) (drop (p + 1) l) in
+    let past : drop j l ≡ get_or l j blank ∷ drop n l = let z : suc j ≡ n = omega arith in drop-cons l j blank (omega arith) ∙ ap (λ (k : ℕ). get_or l j blank ∷ drop k l) z in
+    let size : length (take p l ++ moved) ≡ n - 1 = omega (arith, length-append (take p l) moved, length-take p l, length-take (n - (p + 1)) (drop (p + 1) l), length-drop (p + 1) l) in
+    let same : moved ≡ drop (p + 1) (take n l) = let z : p + 1 + (n - (p + 1)) ≡ n = omega arith in sym (drop-take (p + 1) (n - (p + 1)) l) ∙ ap (λ (k : ℕ). drop (p + 1) (take k l)) z in
+    ap (λ (t : List A). set ((take p l ++ moved) ++ t) (n - 1) blank) past
+    ∙ set_at (take p l ++ moved) (get_or l j blank) (drop n l) blank (n - 1) size
+    ∙ append_assoc (take p l) moved (blank ∷ drop n l)
+    ∙ ap (λ (t : List A). take p l ++ (t ++ blank ∷ drop n l)) same
 
 -- an edit keeps the length
 pub edited_length : {A : Type 0} (blank : A) (e : Edit) (n : ℕ) (x : A) (l : List A) → n ≤ length l → length (edited blank e n x l) ≡ length l

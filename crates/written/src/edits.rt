@@ -1,8 +1,8 @@
 // One edit of a table, made alike to its rows and to its names.
-ghost use Rattle.std.specs.Prelude.{◌≡◌, ◌%◌, ◌≤◌, eqb, length, position, take};
+ghost use Rattle.std.specs.Prelude.{◌≡◌, ◌%◌, ◌≤◌, length, take};
 ghost use Rattle.written.specs.Edits.{edited, place_in};
 
-use image::{Row, short_number};
+use image::{Row, place};
 
 #[derive(Clone, Copy, Debug, PartialEq, Eq)]
 pub enum Edit {
@@ -12,18 +12,12 @@ pub enum Edit {
     Cut(usize),
 }
 
-fn place<R: Row>(rows: &[R], id: u32) -> Option<usize>
-    ensures { result ≡ position (λ row. eqb (R.number row % 4294967296) id) rows.now }
-{
-    rows.iter().position(|row| short_number(row.number()) == id)
-}
-
 // The place of the first row of a number among the first n, or n.
 pub fn place_of<R: Row>(rows: &[R], n: usize, id: u32) -> usize
     requires { n ≤ length rows.now }
     ensures { result ≡ place_in (λ row. R.number row % 4294967296) id (take n rows.now) }
 {
-    place(&rows[..n], id).unwrap_or(n)
+    place(rows, n, id).unwrap_or(n)
 }
 
 // Of a list whose first n are in use. A removal moves the later ones up, and the last place is blank.

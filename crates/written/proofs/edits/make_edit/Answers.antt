@@ -1,6 +1,5 @@
 use native.Mathlib.Omega.{arith}
-use Rattle.tables.proofs.TablesLaws.{shift_copied}
-use Rattle.written.proofs.EditsLaws.{cut_in}
+use Rattle.written.proofs.EditsLaws.{cut_in, shift_copied}
 use Rattle.written.proofs.edits.make_edit.Goals as goal
 
 pub returns-in-Cut : goal.returns-in-Cut

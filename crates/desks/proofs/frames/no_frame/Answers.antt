@@ -1,4 +1,0 @@
-use Rattle.desks.proofs.frames.no_frame.Goals as goal
-
-pub returns : goal.returns
-returns c = rw (c.empty_name-key.ensures, c.empty_name-app.ensures)
