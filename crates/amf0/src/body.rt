@@ -9,6 +9,7 @@ use crate::skip::{NESTED, skip_value, skip_values};
 pub fn check_body(body: &[u8]) -> Result<(), BodyError>
     ensures { result ≡ checked body.now }
 {
+    // Each value says where the next one begins, so nothing counts the places.
     let mut at = 0;
     while at < body.len() {
         at = skip_value(body, at, NESTED)?;

@@ -25,6 +25,7 @@ fn last_pair(body: &[u8], word: &[u8], at: usize) -> Option<usize>
 {
     let mut i = at;
     let mut best = None;
+    // Each pair says where the next one begins.
     while let Some((v, next)) = pair_at(body, i) {
         if is_word(&body[i + 2..v], word) {
             best = Some(v);

@@ -17,6 +17,7 @@ fn skip_pairs(body: &[u8], at: usize, left: usize) -> Result<usize, BodyError>
     ensures { result ≡ pairs (skip_v body.now left) body.now at }
 {
     let mut i = at;
+    // Each pair says where the next one begins.
     loop {
         match read_name(body, i)? {
             NameAt::End(n) => return Ok(n),

@@ -74,7 +74,7 @@ fn read_text(body: &[u8], p: usize) -> Option<Read>
     hold(body, start, len, Amf0Value::Text { start, len })
 }
 
-// A long string after its length of four bytes.
+// A long string after its length of four bytes. One function for both would take the width, its reader and the case.
 fn read_long_text(body: &[u8], p: usize) -> Option<Read>
     ensures { result ≡ text_at 4 LongText body.now p }
 {
@@ -83,7 +83,7 @@ fn read_long_text(body: &[u8], p: usize) -> Option<Read>
     hold(body, start, len, Amf0Value::LongText { start, len })
 }
 
-// What the marker m says of the bytes from p on, which follow it.
+// What the marker m says of the bytes from p on, which follow it. Markers are the format's own numbers, told apart here alone.
 #[tactic(auto, unfolding(crate::specs::Reading::by_marker))]
 fn read_marked(body: &[u8], p: usize, m: u8) -> Option<Read>
     ensures { result ≡ by_marker body.now p m }

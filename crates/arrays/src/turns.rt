@@ -192,7 +192,7 @@ fn tell_frame(
     }
 }
 
-// The type alone picks the treatment.
+// The type alone picks the treatment. It is the wire's number, and C hands it in.
 fn by_type_in(
     facts: &mut [u64; 10],
     streams: &mut [[u64; 4]; 16],

@@ -5,7 +5,7 @@ ghost use Rattle.damage.specs.Damage.{damaged};
 use session::Session;
 use text::{RequestId, StreamId};
 
-// "place is an index into a table, from 0, taken modulo 16"
+// "place is an index into a table, from 0, taken modulo 16". What is overwritten is the trace's number, told apart here alone.
 #[tactic(auto, unfolding(crate::specs::Damage::damaged, crate::specs::Damage::numbered_stream, crate::specs::Damage::keyed_stream, crate::specs::Damage::numbered_request, crate::specs::Damage::named_request))]
 pub fn damage_session(mut session: Session, what: u8, place: u8, value: u32) -> Session
     ensures { result ≡ damaged session what place value }

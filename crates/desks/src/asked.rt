@@ -26,6 +26,7 @@ pub fn is_read(kind: u8) -> bool
     matches!(kind, 4 | 18 | 20)
 }
 
+// By the wire's number, as in `messages`.
 #[tactic(auto, unfolding(crate::specs::Asked::wish_of))]
 fn wish_of(kind: u8, body: &[u8]) -> Result<Wish, Refusal>
     ensures { result ≡ wish_of kind body.now }

@@ -16,6 +16,7 @@ pub enum Kind {
     Damage,
 }
 
+// The trace's numbers, told apart here alone.
 #[tactic(auto, unfolding(crate::specs::Entries::kind_of))]
 pub fn kind_of(byte: u8) -> Option<Kind>
     ensures { result ≡ kind_of byte }

@@ -28,6 +28,7 @@ fn show_frame(media: &mut [u64; 4], words: &mut [[u8; 128]; 2], frame: Option<Fr
     }
 }
 
+// The kind is the number that C hands in.
 #[tactic(auto, unfolding(crate::specs::Frames::frame_by))]
 fn frame_by(
     facts: &[u64; 10],

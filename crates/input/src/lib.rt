@@ -20,6 +20,7 @@ pub fn read_full<R: Read>(input: &mut R, buf: &mut [u8]) -> io::Result<usize>
     ensures err { OnErr result ((n : ℕ) × (n ≤ length buf.new) × Consumes (R.remaining input.old) (R.remaining input.new) (take n buf.new)) }
 {
     let mut done = 0;
+    // Only a read says how far it came.
     while done < buf.len() {
         let count = input.read(&mut buf[done..])?;
         if count == 0 {

@@ -66,6 +66,7 @@ fn put_video(out: &mut [u8], at: usize, m: StreamMetadata) -> usize
     put_rate(out, d, m.video_frame_rate)
 }
 
+// Alike to `put_video` in shape alone: no field is in both.
 #[tactic(auto, using(spelling::proofs::TextLaws::put_more), unfolding(crate::specs::Lines::audio_text))]
 fn put_audio(out: &mut [u8], at: usize, m: StreamMetadata) -> usize
     ensures { (result, out.new) ≡ put_all (audio_text m) (at, out.old) }

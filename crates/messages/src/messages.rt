@@ -53,7 +53,7 @@ fn frame_answer(session: Session, frame: Option<Frame>) -> Answer
     }
 }
 
-// The type alone picks the treatment.
+// The type alone picks the treatment. It is the wire's number: an enum of types would be matched a second time.
 #[tactic(auto, unfolding(crate::specs::Messages::by_type))]
 fn by_type(
     session: Session,

@@ -62,6 +62,7 @@ pub fn show_start(output: &mut impl Write, what: &[u8], bits: u64) -> io::Result
     line(output)
 }
 
+// As `show_start`: one function for both would take the writer as a closure, and be longer.
 pub fn show_duration(output: &mut impl Write, what: &[u8], bits: u64) -> io::Result<()> {
     say(output, what)?;
     write_duration(output, bits)?;

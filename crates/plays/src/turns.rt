@@ -91,6 +91,7 @@ pub fn play_reject(s: Session, e: &[u8], out: &mut [u8], line: &mut [u8]) -> Tur
     answer_turn(line, b"reject", answer, 0, out)
 }
 
+// As `play_accept` in shape alone: another number, another call.
 #[tactic(auto, unfolding(crate::specs::Plays::finish_played))]
 pub fn play_finish(s: Session, e: &[u8], out: &mut [u8], line: &mut [u8]) -> Turn
     ensures { (result, line.new) ≡ finish_played s e.now out.old line.old }

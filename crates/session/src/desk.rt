@@ -13,6 +13,7 @@ pub struct Desk {
     pub app: Name,
     pub next_stream: u32,
     pub next_request: u32,
+    // What the tables hold, without the tables.
     pub stream_count: usize,
     pub request_count: usize,
     pub seen: Option<Stream>,

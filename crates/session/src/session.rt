@@ -11,7 +11,8 @@ pub enum SessionState {
     Connected,
 }
 
-// The app counts where `has_app` is set. Of each table the first `.._count` places are in use.
+// The app counts where `has_app` is set. It is no `Option`, since a host gets back the bytes that stand there without the flag
+// (`kept_at` of `written`). Of each table the first `.._count` places are in use: fixed memory, so counts and no `Vec`.
 #[derive(Clone, Copy)]
 pub struct Session {
     pub start: u64,

@@ -9,6 +9,7 @@ use numbers::PlayStartValue;
 use text::PublishMode;
 use wishes::Action;
 
+// The words are put into the caller's line. Not `Display`, which promises nothing of the bytes it writes.
 pub fn put_mode(out: &mut [u8], at: usize, mode: PublishMode) -> usize
     ensures { (result, out.new) ≡ put_all (mode_text mode) (at, out.old) }
 {

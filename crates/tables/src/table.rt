@@ -99,7 +99,7 @@ fn has<E: Entry>(entries: &[E], number: u32) -> bool
     entries.iter().any(|e| e.number() == number)
 }
 
-// The same in any order, each number compared with the later ones.
+// The same in any order, each number compared with the later ones. A `for` with places was tried, and its proof did not close.
 #[tactic(auto, unfolding(crate::specs::Tables::sound))]
 fn apart<E: Entry>(entries: &[E], next: u32) -> bool
     ensures { result ≡ sound E.number E.name next entries.now }

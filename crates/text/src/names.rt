@@ -11,7 +11,7 @@ use crate::words::is_word;
 use numbers::write_bytes;
 
 // The text is the first `len` bytes. In every name made here the bytes past them are zeros. A name that
-// is handed in may say any length: its text ends with its bytes.
+// is handed in may say any length: its text ends with its bytes. Fixed memory, so a length beside the bytes and no `Vec`.
 #[derive(Clone, Copy)]
 pub struct Name {
     pub bytes: [u8; 128],

@@ -16,6 +16,7 @@ fn ping_wish(body: &[u8], ping: Wish) -> Result<Wish, Refusal>
     Ok(ping)
 }
 
+// The event is the wire's number, told apart here alone.
 #[tactic(auto, unfolding(crate::specs::Control::event_wish))]
 fn event_wish(body: &[u8], event: u16) -> Result<Wish, Refusal>
     ensures { result ≡ event_wish body.now event }

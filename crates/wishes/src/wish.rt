@@ -43,6 +43,7 @@ pub enum PlayFault {
 
 #[derive(Clone, Copy)]
 pub enum Wish {
+    // A message may ask for nothing: in an `Option` every other case would be wrapped once more.
     Nothing,
     Connect {
         transaction: u64,
