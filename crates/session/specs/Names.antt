@@ -1,5 +1,5 @@
 -- The names of events, and of the actions that 11 names: "names the action (publish, play, complete) and the stream".
-use Rattle.std.specs.Prelude.{ℕ, List}
+use Rattle.std.specs.Prelude.{ℕ, List, [], Option, Some, None}
 use Rattle.std.specs.Option.{unwrap_or}
 use Rattle.text.specs.Names.{empty_name, name_read}
 use Rattle.text.specs.Words.{text}
@@ -13,16 +13,18 @@ use Rattle.session.specs.declared.decision.Event.TheVariants.{ConnectionRequeste
 abbrev pub word_of : List ℕ → Name
 word_of t = unwrap_or (name_read t) empty_name
 
-abbrev pub event_text : Event → List ℕ
-event_text (ConnectionRequested request) = text "ConnectionRequested"
-event_text (PublishStreamRequested request mode) = text "PublishStreamRequested"
-event_text (PlayStreamRequested request start duration reset stream) = text "PlayStreamRequested"
-event_text PublishStreamFinished = text "PublishStreamFinished"
-event_text PlayStreamFinished = text "PlayStreamFinished"
-event_text StreamMetadataChanged = text "StreamMetadataChanged"
-event_text (AudioDataReceived timestamp) = text "AudioDataReceived"
-event_text (VideoDataReceived timestamp) = text "VideoDataReceived"
-event_text (PingResponseReceived timestamp) = text "PingResponseReceived"
+-- no event has the empty name
+abbrev pub event_text : Option Event → List ℕ
+event_text None = []
+event_text (Some (ConnectionRequested request)) = text "ConnectionRequested"
+event_text (Some (PublishStreamRequested request mode)) = text "PublishStreamRequested"
+event_text (Some (PlayStreamRequested request start duration reset stream)) = text "PlayStreamRequested"
+event_text (Some PublishStreamFinished) = text "PublishStreamFinished"
+event_text (Some PlayStreamFinished) = text "PlayStreamFinished"
+event_text (Some StreamMetadataChanged) = text "StreamMetadataChanged"
+event_text (Some (AudioDataReceived timestamp)) = text "AudioDataReceived"
+event_text (Some (VideoDataReceived timestamp)) = text "VideoDataReceived"
+event_text (Some (PingResponseReceived timestamp)) = text "PingResponseReceived"
 
 abbrev pub action_text : Action → List ℕ
 action_text Publish = text "publish"

@@ -12,19 +12,20 @@ fn word(part: &[u8]) -> Name
     read_name(part).unwrap_or(empty_name())
 }
 
-fn event_text(event: Event) -> &'static [u8]
+fn event_text(event: Option<Event>) -> &'static [u8]
     ensures { result.now ≡ event_text event }
 {
     match event {
-        Event::ConnectionRequested(_) => b"ConnectionRequested",
-        Event::PublishStreamRequested { .. } => b"PublishStreamRequested",
-        Event::PlayStreamRequested { .. } => b"PlayStreamRequested",
-        Event::PublishStreamFinished => b"PublishStreamFinished",
-        Event::PlayStreamFinished => b"PlayStreamFinished",
-        Event::StreamMetadataChanged => b"StreamMetadataChanged",
-        Event::AudioDataReceived { .. } => b"AudioDataReceived",
-        Event::VideoDataReceived { .. } => b"VideoDataReceived",
-        Event::PingResponseReceived { .. } => b"PingResponseReceived",
+        None => b"",
+        Some(Event::ConnectionRequested(_)) => b"ConnectionRequested",
+        Some(Event::PublishStreamRequested { .. }) => b"PublishStreamRequested",
+        Some(Event::PlayStreamRequested { .. }) => b"PlayStreamRequested",
+        Some(Event::PublishStreamFinished) => b"PublishStreamFinished",
+        Some(Event::PlayStreamFinished) => b"PlayStreamFinished",
+        Some(Event::StreamMetadataChanged) => b"StreamMetadataChanged",
+        Some(Event::AudioDataReceived { .. }) => b"AudioDataReceived",
+        Some(Event::VideoDataReceived { .. }) => b"VideoDataReceived",
+        Some(Event::PingResponseReceived { .. }) => b"PingResponseReceived",
     }
 }
 
@@ -38,7 +39,8 @@ fn action_text(action: Action) -> &'static [u8]
     }
 }
 
-pub fn event_name(event: Event) -> Name
+// No event has the empty name.
+pub fn event_name(event: Option<Event>) -> Name
     ensures { result ≡ word_of (event_text event) }
 {
     word(event_text(event))

@@ -45,10 +45,10 @@ text_in s (Some Object) = None
 text_in s (Some Other) = None
 text_in s None = None
 
-abbrev pub is_text : List ℕ → Option (List ℕ) → Bool
-is_text w (Some t) = same t w
-is_text w None = false
+abbrev pub same_text : List ℕ → Option (List ℕ) → Bool
+same_text w (Some t) = same t w
+same_text w None = false
 
 -- whether it is a string, and this word
 abbrev pub says : List ℕ → Option Plain → List ℕ → Bool
-says s v w = is_text w (text_in s v)
+says s v w = same_text w (text_in s v)
