@@ -1,7 +1,7 @@
 // What is asked of a session.
 ghost use Rattle.std.specs.Prelude.{◌≡◌};
 ghost use Rattle.image.specs.Image.{session_read};
-ghost use Rattle.desks.specs.Asked.{decision_of, read_type, wish_of};
+ghost use Rattle.desks.specs.Asked.{decision_of, wish_of};
 
 use crate::desks::{accepted_in, decided_in, finished_in, rejected_in};
 use image::Image;
@@ -19,14 +19,7 @@ pub enum Asked {
     Finish(StreamId),
 }
 
-// Types 4, 18 and 20.
-#[tactic(auto, unfolding(crate::specs::Asked::read_type))]
-pub fn is_read(kind: u8) -> bool
-    ensures { result ≡ read_type kind }
-{
-    matches!(kind, 4 | 18 | 20)
-}
-
+// Of a type that is read: 4, 18 or 20.
 #[tactic(auto, unfolding(crate::specs::Asked::wish_of))]
 fn wish_of(kind: u8, body: &[u8]) -> Result<Wish, Refusal>
     ensures { result ≡ wish_of kind body.now }
