@@ -6,7 +6,6 @@ use mathlib.Core.Logic.{◌⊎◌, inl, inr}
 use mathlib.Core.Bool.{Bool, true, false, ◌&&◌}
 use Rattle.std.specs.Prelude.{Option, Some, None, Err}
 use mathlib.Core.List.{List, []}
-use lib.Dec.{eqb}
 use lib.ListN.{get_or}
 use borrow.Author.Tests.{ne_eqb}
 use Rattle.numbers.specs.Choose.{pick}

@@ -9,11 +9,11 @@ ghost use Rattle.replies.specs.Replies.{reply_records};
 ghost use Rattle.messages.specs.Messages.{by_type, frame_answer, guarded, handle_message};
 ghost use Rattle.desks.specs.Asked.{decision_of};
 ghost use Rattle.calls.specs.Calls.{accepting, finishes, rejecting};
-ghost use Rattle.image.specs.Image.{cell, session_at, sound_at};
+ghost use Rattle.image.specs.Image.{cell, session_at, session_read, sound_at};
 ghost use Rattle.arrays.specs.Turns.{changed_by, hosted, keeps, told, turned};
 
 use desks::{Asked, decision_in, frame_in};
-use image::{image_sound, types_say};
+use image::{Image, image_sound, types_say};
 use parts::{tell_decision, tell_plain, tell_quiet};
 use record::time_of;
 use replies::write_reply;
@@ -90,10 +90,12 @@ fn conclude(
 {
     types_say(facts, streams, requests, names);
     let decision = decision_in(
-        facts,
-        streams,
-        requests,
-        names,
+        Image {
+            facts,
+            streams,
+            requests,
+            names,
+        },
         asked,
         code,
         description,
@@ -165,19 +167,16 @@ fn answer_in(
 
 // A frame changes nothing.
 fn tell_frame(
-    facts: &[u64; 10],
-    streams: &[[u64; 4]; 16],
-    requests: &[[u64; 6]; 16],
-    names: &[[u8; 128]; 34],
+    image: Image,
     numbers: &mut [u64; 16],
     described: &mut [[u64; 11]; 2],
     words: &mut [[u8; 128]; 3],
     id: StreamId,
     event: Event,
 ) -> u32
-    ensures { (result, (numbers.new, (described.new, words.new))) ≡ told (frame_answer (session_at facts.now streams.now requests.now names.now) (frame_of (session_at facts.now streams.now requests.now names.now) id event)) }
+    ensures { (result, (numbers.new, (described.new, words.new))) ≡ told (frame_answer (session_read image.entry) (frame_of (session_read image.entry) id event)) }
 {
-    match frame_in(facts, streams, requests, names, id, event) {
+    match frame_in(image, id, event) {
         Some(frame) => tell_plain(
             numbers,
             described,
@@ -230,10 +229,12 @@ fn by_type_in(
             clock,
         ),
         8 => tell_frame(
-            facts,
-            streams,
-            requests,
-            names,
+            Image {
+                facts,
+                streams,
+                requests,
+                names,
+            },
             numbers,
             described,
             words,
@@ -241,10 +242,12 @@ fn by_type_in(
             Event::AudioDataReceived { timestamp },
         ),
         9 => tell_frame(
-            facts,
-            streams,
-            requests,
-            names,
+            Image {
+                facts,
+                streams,
+                requests,
+                names,
+            },
             numbers,
             described,
             words,

@@ -1,5 +1,5 @@
 -- What is asked of a session, and what it decides.
-use Rattle.std.specs.Prelude.{ℕ, Bool, ◌||◌, List, Result, eqb}
+use Rattle.std.specs.Prelude.{ℕ, List, Result, eqb}
 use Rattle.numbers.specs.Choose.{pick}
 use Rattle.wishes.specs.Commands.{command_wish}
 use Rattle.wishes.specs.Control.{control_wish}
@@ -14,10 +14,7 @@ use Rattle.replies.specs.Replies.{short}
 use Rattle.desks.specs.declared.asked.Asked.{Asked}
 use Rattle.desks.specs.declared.asked.Asked.TheVariants.{Said, Accept, Reject, Finish}
 
--- the types that are read: 4 user control, 18 data, 20 command
-unfoldable pub read_type : ℕ → Bool
-read_type type = eqb type 4 || (eqb type 18 || eqb type 20)
-
+-- of the types that are read: 4 user control, 18 data, 20 command
 unfoldable pub wish_of : ℕ → List ℕ → Result Wish Refusal
 wish_of type body = pick (eqb type 4) (control_wish body) (pick (eqb type 18) (data_wish body) (command_wish body))
 

@@ -1,9 +1,10 @@
 // What is asked of a session.
 ghost use Rattle.std.specs.Prelude.{◌≡◌};
-ghost use Rattle.image.specs.Image.{session_at};
-ghost use Rattle.desks.specs.Asked.{decision_of, read_type, wish_of};
+ghost use Rattle.image.specs.Image.{session_read};
+ghost use Rattle.desks.specs.Asked.{decision_of, wish_of};
 
 use crate::desks::{accepted_in, decided_in, finished_in, rejected_in};
+use image::Image;
 use replies::are_short;
 use session::Decision;
 use text::{RequestId, StreamId};
@@ -18,15 +19,7 @@ pub enum Asked {
     Finish(StreamId),
 }
 
-// Types 4, 18 and 20.
-#[tactic(auto, unfolding(crate::specs::Asked::read_type))]
-pub fn is_read(kind: u8) -> bool
-    ensures { result ≡ read_type kind }
-{
-    matches!(kind, 4 | 18 | 20)
-}
-
-// By the wire's number, as in `messages`.
+// Of a type that is read: 4, 18 or 20. It is the wire's number, as in `messages`.
 #[tactic(auto, unfolding(crate::specs::Asked::wish_of))]
 fn wish_of(kind: u8, body: &[u8]) -> Result<Wish, Refusal>
     ensures { result ≡ wish_of kind body.now }
@@ -40,35 +33,18 @@ fn wish_of(kind: u8, body: &[u8]) -> Result<Wish, Refusal>
 
 // The body is a message's, the code and the description are a reject's.
 pub fn decision_in(
-    facts: &[u64; 10],
-    streams: &[[u64; 4]; 16],
-    requests: &[[u64; 6]; 16],
-    names: &[[u8; 128]; 34],
+    image: Image,
     asked: Asked,
     code: &[u8],
     description: &[u8],
     body: &[u8],
 ) -> Decision
-    ensures { result ≡ decision_of asked (session_at facts.now streams.now requests.now names.now) code.now description.now body.now }
+    ensures { result ≡ decision_of asked (session_read image.entry) code.now description.now body.now }
 {
     match asked {
-        Asked::Said { kind, stream } => decided_in(
-            facts,
-            streams,
-            requests,
-            names,
-            stream,
-            wish_of(kind, body),
-        ),
-        Asked::Accept(id) => accepted_in(facts, streams, requests, names, id),
-        Asked::Reject(id) => rejected_in(
-            facts,
-            streams,
-            requests,
-            names,
-            id,
-            are_short(code, description),
-        ),
-        Asked::Finish(id) => finished_in(facts, streams, requests, names, id),
+        Asked::Said { kind, stream } => decided_in(image, stream, wish_of(kind, body)),
+        Asked::Accept(id) => accepted_in(image, id),
+        Asked::Reject(id) => rejected_in(image, id, are_short(code, description)),
+        Asked::Finish(id) => finished_in(image, id),
     }
 }

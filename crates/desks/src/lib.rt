@@ -7,6 +7,6 @@ mod desks;
 mod frames;
 mod seen;
 
-pub use asked::{Asked, decision_in, is_read};
+pub use asked::{Asked, decision_in};
 pub use frames::frame_in;
 pub use seen::{connected_in, stream_in};

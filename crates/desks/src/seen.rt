@@ -2,9 +2,9 @@
 ghost use Rattle.std.specs.Prelude.{◌≡◌, eqb};
 ghost use Rattle.session.specs.State.{connected_in, request_at, stream_at};
 ghost use Rattle.image.specs.Cases.{session_state};
-ghost use Rattle.image.specs.Image.{cell, session_at};
+ghost use Rattle.image.specs.Image.{cell, session_read};
 
-use image::{find_request_row, find_row, types_say};
+use image::{Image, find_request_row, find_row, types_say};
 use tables::{Request, Stream};
 use text::{RequestId, StreamId};
 
@@ -16,29 +16,17 @@ pub fn connected_in(facts: &[u64; 10]) -> bool
 }
 
 #[tactic(auto, using(crate::proofs::SeenLaws::stream_seen))]
-pub fn stream_in(
-    facts: &[u64; 10],
-    streams: &[[u64; 4]; 16],
-    requests: &[[u64; 6]; 16],
-    names: &[[u8; 128]; 34],
-    id: StreamId,
-) -> Option<Stream>
-    ensures { result ≡ stream_at (session_at facts.now streams.now requests.now names.now) id }
+pub fn stream_in(image: Image, id: StreamId) -> Option<Stream>
+    ensures { result ≡ stream_at (session_read image.entry) id }
 {
-    types_say(facts, streams, requests, names);
-    find_row(streams, names, facts[8], id)
+    types_say(image.facts, image.streams, image.requests, image.names);
+    find_row(image.streams, image.names, image.facts[8], id)
 }
 
 #[tactic(auto, using(crate::proofs::SeenLaws::request_seen))]
-pub fn request_in(
-    facts: &[u64; 10],
-    streams: &[[u64; 4]; 16],
-    requests: &[[u64; 6]; 16],
-    names: &[[u8; 128]; 34],
-    id: RequestId,
-) -> Option<Request>
-    ensures { result ≡ request_at (session_at facts.now streams.now requests.now names.now) id }
+pub fn request_in(image: Image, id: RequestId) -> Option<Request>
+    ensures { result ≡ request_at (session_read image.entry) id }
 {
-    types_say(facts, streams, requests, names);
-    find_request_row(requests, names, facts[9], id)
+    types_say(image.facts, image.streams, image.requests, image.names);
+    find_request_row(image.requests, image.names, image.facts[9], id)
 }

@@ -1,10 +1,10 @@
 // Audio and video messages. The session stays as it is.
 ghost use Rattle.std.specs.Prelude.{◌≡◌, None};
-ghost use Rattle.image.specs.Image.{readable_at, session_at};
+ghost use Rattle.image.specs.Image.{readable_at, session_at, session_read};
 ghost use Rattle.host.specs.Frames.{frame_by, frame_shown, hosted_media, media_of};
 
 use desks::frame_in;
-use image::image_sound;
+use image::{Image, image_sound};
 use parts::{event_numbers, show_media};
 use session::Event;
 use streams::Frame;
@@ -30,23 +30,15 @@ fn show_frame(media: &mut [u64; 4], words: &mut [[u8; 128]; 2], frame: Option<Fr
 
 // The kind is the number that C hands in.
 #[tactic(auto, unfolding(crate::specs::Frames::frame_by))]
-fn frame_by(
-    facts: &[u64; 10],
-    streams: &[[u64; 4]; 16],
-    requests: &[[u64; 6]; 16],
-    names: &[[u8; 128]; 34],
-    kind: u8,
-    id: StreamId,
-    timestamp: u32,
-) -> Option<Frame>
-    ensures { result ≡ frame_by kind (session_at facts.now streams.now requests.now names.now) id timestamp }
+fn frame_by(image: Image, kind: u8, id: StreamId, timestamp: u32) -> Option<Frame>
+    ensures { result ≡ frame_by kind (session_read image.entry) id timestamp }
 {
     let event = match kind {
         8 => Event::AudioDataReceived { timestamp },
         9 => Event::VideoDataReceived { timestamp },
         _ => return None,
     };
-    frame_in(facts, streams, requests, names, id, event)
+    frame_in(image, id, event)
 }
 
 // An audio (kind 8) or a video (kind 9) message.
@@ -67,8 +59,13 @@ pub fn chungvator_handle_media(
         show_nothing(media, words);
         return 15;
     }
-    let id = StreamId(stream);
-    let frame = frame_by(facts, streams, requests, names, kind, id, timestamp);
+    let image = Image {
+        facts,
+        streams,
+        requests,
+        names,
+    };
+    let frame = frame_by(image, kind, StreamId(stream), timestamp);
     show_frame(media, words, frame);
     0
 }

@@ -1,6 +1,6 @@
 -- Rows read one by one, and rows found.
 use mathlib.Core.Path.{◌≡◌, refl, sym, ap, ◌∙◌}
-use Prim.Native.Nat.{ℕ, zero, suc, ◌+◌, ◌-◌, ◌%◌, ◌≤◌, ◌<◌, min}
+use Prim.Native.Nat.{ℕ, zero, suc, ◌+◌, ◌-◌, ◌≤◌, ◌<◌, min}
 use native.Mathlib.Numerals.{add-one}
 use native.Mathlib.Omega.{arith}
 use mathlib.Core.Logic.{inl, inr}
@@ -9,13 +9,12 @@ use mathlib.Core.Bool.{cond, not}
 use lib.Dec.{eqb, ltb}
 use Rattle.std.specs.Prelude.{Option, Some, None, position}
 use Rattle.std.specs.List.{position_or_len}
-use Rattle.std.proofs.lemmas.List.Quantifiers.{position-Some}
 use lib.ListN.{length, length-append, length-replicate, take, drop, set, get_or, length-drop, length-take, replicate}
 use lib.Seq.{append_snoc, length-take-le, set_at, take_at, take-suc, take-take}
 use Rattle.numbers.proofs.PatternLaws.{le_or_lt}
 use Rattle.tables.specs.Tables.{look}
 use Rattle.tables.proofs.TablesLaws.{look_at, look_missing, missing, stands, take_in}
-use Rattle.image.specs.Image.{Wide, cell, joined}
+use Rattle.image.specs.Image.{Wide, joined}
 
 -- ---- rows joined with their names
 module _ {R A : Type 0} (f : R → List ℕ → A) where

@@ -7,6 +7,7 @@ use Rattle.tables.specs.declared.requests.Request.{Request}
 use Rattle.tables.specs.declared.streams.Stream.{Stream}
 use Rattle.session.specs.State.{session_sound}
 use Rattle.session.specs.declared.session.Session.{Session}
+use Rattle.image.specs.declared.shape.Image.{Image as Lent}
 use Rattle.image.specs.Cases.{kind_of, mode_of, session_state, state_of}
 
 -- the k-th number of a row
@@ -72,6 +73,10 @@ session_at facts streams requests names =
       streams = streams_at (cell facts 8) streams names;
       requests = requests_at (cell facts 9) requests names;
     }
+
+-- the same of arrays that are lent
+abbrev pub session_read : Lent → Session
+session_read a = session_at a.facts.now a.streams.now a.requests.now a.names.now
 
 -- ---- whether each number names a case or fits its 32 bits, in the facts and in the rows in use
 abbrev pub fits32 : ℕ → Bool

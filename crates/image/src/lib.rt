@@ -13,5 +13,5 @@ mod sound;
 pub use cases::{flag_number, mode_number};
 pub use reading::{find_request_row, find_row, rows_in_use};
 pub use rows::{Row, place, short_number};
-pub use shape::types_say;
+pub use shape::{Image, types_say};
 pub use sound::image_sound;

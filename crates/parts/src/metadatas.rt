@@ -1,5 +1,5 @@
 // Metadata as two rows: which of the eleven are set, and their values, of the encoder its length.
-ghost use Rattle.std.specs.Prelude.{◌≡◌, ◌%◌, eqb, option_map};
+ghost use Rattle.std.specs.Prelude.{◌≡◌, option_map};
 ghost use Rattle.text.specs.declared.names.Name.{Name};
 ghost use Rattle.image.specs.Cases.{flag_number};
 ghost use Rattle.parts.specs.Parts.{encoder_bytes, field_numbers, given, metadata_of, metadata_rows, rate_number, rate_of};
@@ -73,62 +73,39 @@ pub fn encoder_bytes(m: StreamMetadata) -> [u8; 128]
     m.encoder.unwrap_or(empty_name()).bytes
 }
 
-// A field is set where its flag is 1, and a number is taken modulo 2^32.
-fn whole(set: u64, value: u64) -> Option<u32>
-    ensures { result ≡ given set (value % 4294967296) }
+fn rate_of(n: u64) -> f32
+    ensures { result ≡ rate_of n }
 {
-    if set == 1 {
-        Some(short_number(value))
-    } else {
-        None
-    }
+    f32_of(double_of_single(short_number(n)))
 }
 
-fn rate_of(set: u64, value: u64) -> Option<f32>
-    ensures { result ≡ given set (rate_of value) }
+// A field is set where its flag is 1.
+fn given<T: Copy>(set: u64, value: T) -> Option<T>
+    ensures { result ≡ given set value }
 {
-    if set == 1 {
-        Some(f32_of(double_of_single(short_number(value))))
-    } else {
-        None
-    }
+    if set == 1 { Some(value) } else { None }
 }
 
-fn is_one(set: u64, value: u64) -> Option<bool>
-    ensures { result ≡ given set (eqb value 1) }
-{
-    if set == 1 { Some(value == 1) } else { None }
-}
-
-fn name_of(set: u64, bytes: [u8; 128], len: u64) -> Option<Name>
-    ensures { result ≡ given set (record { bytes = bytes; len = len }) }
-{
-    if set == 1 {
-        Some(Name {
-            bytes,
-            len: len as usize,
-        })
-    } else {
-        None
-    }
-}
-
-// What stands beside a flag that is not 1 is not read.
+// A number is taken modulo 2^32; what stands beside a flag that is not 1 is not read.
 #[tactic(auto, unfolding(crate::specs::Parts::metadata_of))]
 pub fn metadata_of(set: [u64; 11], values: [u64; 11], bytes: [u8; 128]) -> StreamMetadata
     ensures { result ≡ metadata_of set values bytes }
 {
+    let encoder = Name {
+        bytes,
+        len: values[10] as usize,
+    };
     StreamMetadata {
-        video_width: whole(set[0], values[0]),
-        video_height: whole(set[1], values[1]),
-        video_codec_id: whole(set[2], values[2]),
-        video_bitrate_kbps: whole(set[3], values[3]),
-        video_frame_rate: rate_of(set[4], values[4]),
-        audio_codec_id: whole(set[5], values[5]),
-        audio_bitrate_kbps: whole(set[6], values[6]),
-        audio_sample_rate: whole(set[7], values[7]),
-        audio_channels: whole(set[8], values[8]),
-        audio_is_stereo: is_one(set[9], values[9]),
-        encoder: name_of(set[10], bytes, values[10]),
+        video_width: given(set[0], short_number(values[0])),
+        video_height: given(set[1], short_number(values[1])),
+        video_codec_id: given(set[2], short_number(values[2])),
+        video_bitrate_kbps: given(set[3], short_number(values[3])),
+        video_frame_rate: given(set[4], rate_of(values[4])),
+        audio_codec_id: given(set[5], short_number(values[5])),
+        audio_bitrate_kbps: given(set[6], short_number(values[6])),
+        audio_sample_rate: given(set[7], short_number(values[7])),
+        audio_channels: given(set[8], short_number(values[8])),
+        audio_is_stereo: given(set[9], values[9] == 1),
+        encoder: given(set[10], encoder),
     }
 }

@@ -1,5 +1,5 @@
 use mathlib.Core.Path.{◌≡◌}
-use Prim.Native.Nat.{ℕ, ◌-◌, ◌≤◌}
+use Prim.Native.Nat.{ℕ, ◌-◌}
 use mathlib.Core.List.{◌++◌, map}
 use lib.ListN.{length, replicate, take}
 use Rattle.std.specs.Prelude.{Option, is_some}
