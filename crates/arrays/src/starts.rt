@@ -1,4 +1,5 @@
 // The start of a session: all of the arrays is written.
+// The arrays are written to, so they go one by one: where a struct of `&mut` comes apart again, the proof did not close.
 ghost use Rattle.std.specs.Prelude.{◌≡◌, None};
 ghost use Rattle.text.specs.Names.{empty_name};
 ghost use Rattle.metadata.specs.Metadata.{no_metadata};

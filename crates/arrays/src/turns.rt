@@ -1,4 +1,5 @@
 // The calls that may change a session: the door, the decision, its records, what it changes, and what is told.
+// The arrays are written to, so they go one by one: where a struct of `&mut` comes apart again, the proof did not close.
 ghost use Rattle.std.specs.Prelude.{◌≡◌, ◌<◌, true, [], get_or};
 ghost use Rattle.record.specs.Clock.{time_of};
 ghost use Rattle.answers.specs.Sending.{sent};

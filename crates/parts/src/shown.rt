@@ -1,4 +1,5 @@
 // An answer's parts, written where the host reads them.
+// The arrays are written to, so they go one by one: where a struct of `&mut` comes apart again, the proof did not close.
 ghost use Rattle.std.specs.Prelude.{◌≡◌};
 ghost use Rattle.metadata.specs.Metadata.{no_metadata};
 ghost use Rattle.parts.specs.Parts.{answer_numbers, media_shown, shown_parts};

@@ -1,4 +1,5 @@
 // The arrays after a change.
+// The arrays are written to, so they go one by one: where a struct of `&mut` comes apart again, the proof did not close.
 ghost use Rattle.std.specs.Prelude.{◌≡◌, ◌-◌, ◌%◌, ◌≤◌, [], ◌++◌, get_or, length, set, take};
 ghost use Rattle.session.specs.State.{following};
 ghost use Rattle.image.specs.Image.{keys_of, titles_of};
