@@ -1,6 +1,6 @@
 // Bytes spelled in hexadecimal digits.
-ghost use Rattle.std.specs.Prelude.{◌≡◌, ℕ, ◌++◌, List, [], ◌∷◌, IfOk, true};
-ghost use Rattle.std.specs.Io.KnownBytes.{Consumes};
+ghost use Rattle.std.specs.Prelude.{◌≡◌, ℕ, ◌++◌, List, [], ◌∷◌, IfOk, true, false};
+ghost use Rattle.std.specs.Io.KnownBytes.{Consumes, IsAtEnd};
 ghost use Rattle.input.specs.Digits.{digit_value, spelled};
 
 use crate::read_full;
@@ -19,7 +19,8 @@ fn digit(b: u8) -> u8
 
 // Reads two digits for each byte, and the byte behind them. Whether they were all there.
 pub fn read_spelled<R: Read>(input: &mut R, bytes: &mut [u8]) -> io::Result<bool>
-    ensures { IfOk result (λ there. there ≡ true → (digits : List ℕ) × (last : ℕ) × Consumes (R.remaining input.old) (R.remaining input.new) (digits ++ last ∷ []) × (spelled digits ≡ bytes.new)) }
+    ensures all { IfOk result (λ there. there ≡ true → (digits : List ℕ) × (last : ℕ) × Consumes (R.remaining input.old) (R.remaining input.new) (digits ++ last ∷ []) × (spelled digits ≡ bytes.new)) }
+    ensures short_at_end { IfOk result (λ there. there ≡ false → IsAtEnd (R.remaining input.new)) }
 {
     for byte in bytes.iter_mut() {
         let mut pair = [0u8; 2];

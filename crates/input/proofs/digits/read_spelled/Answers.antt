@@ -51,8 +51,8 @@ loop-byte-preserved g c =
       ),
     )
 
-pub returns : goal.returns
-returns g c =
+pub returns-clause-all : goal.returns-clause-all
+returns-clause-all g c =
     let l = c.loop-byte in
     let p : List ℕ = c.read_full-2.new.buf in
     let digits : List ℕ = l.invariant.0 in
