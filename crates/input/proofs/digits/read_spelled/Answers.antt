@@ -1,67 +1,84 @@
-use Rattle.std.proofs.Common.{◌≡◌, ℕ, ◌++◌, List, [], ◌∷◌, ◌+◌, ◌*◌, ◌<◌, arith, suc, zero, refl, sym, ap, ◌∙◌, subst, length, get_or, take, set, length-append, add-one}
+use Rattle.std.proofs.Common.{◌≡◌, ℕ, ◌++◌, List, [], ◌∷◌, ◌+◌, ◌-◌, ◌*◌, ◌≤◌, Bool, IfOk, Result, Ok, Err, arith, rules, suc, zero, refl, sym, ap, ◌∙◌, subst, length, get_or, take, length-append, length-take-le, append-nil}
+use Rattle.std.proofs.Math.Seq.{take-append-add, take-append_seam}
+use Rattle.std.proofs.lemmas.List.{append_assoc}
 use Rattle.std.proofs.KnownBytes.{Consumes-trans, Consumes-nil}
 use Rattle.std.specs.Io.KnownBytes.{Consumes}
 use Rattle.input.specs.Digits.{digit_value, spelled}
-use borrow.Author.Tests.{eqb-true}
-use lib.Seq.{take-suc-set, take_all}
+use borrow.Rule.Slice.PartMut.{put_mid, post_of}
+use lib.Seq.{take_all}
 use Rattle.input.proofs.digits.read_spelled.Goals as goal
 
-abbrev byte_of : List ℕ → ℕ
-byte_of p = digit_value (get_or p 0 0) * 16 + digit_value (get_or p 1 0)
-
-pair_spells : (p : List ℕ) → length p ≡ 2 → spelled p ≡ byte_of p ∷ []
+spelled_more : (k : ℕ) (digits more : List ℕ) → length digits ≡ 2 * k → spelled (digits ++ more) ≡ spelled digits ++ spelled more
 unfolding spelled
-pair_spells [] h = absurd (omega (arith, h))
-pair_spells (x ∷ []) h = absurd (omega (arith, h))
-pair_spells (x ∷ (y ∷ [])) h = refl
-pair_spells (x ∷ (y ∷ (z ∷ t))) h = absurd (omega (arith, h))
+spelled_more k [] more h = refl
+spelled_more zero (x ∷ digits) more h = absurd (omega (arith, h))
+spelled_more (suc k) (x ∷ []) more h = absurd (omega (arith, h))
+spelled_more (suc k) (x ∷ (y ∷ digits)) more h = ap (λ (t : List ℕ). (digit_value x * 16 + digit_value y) ∷ t) (spelled_more k digits more (omega (arith, h)))
 
-spelled_more : (i : ℕ) (digits p : List ℕ) → length digits ≡ 2 * i → length p ≡ 2 → spelled (digits ++ p) ≡ spelled digits ++ byte_of p ∷ []
+-- up to the end of the part that was written over
+front_of_part : (a k : ℕ) (xs ys : List ℕ) → a ≤ length xs → take (a + length ys) (put_mid a k xs ys) ≡ take a xs ++ ys
+front_of_part a k xs ys within =
+    ap (λ (n : ℕ). take (n + length ys) (put_mid a k xs ys)) (sym (length-take-le a xs within))
+    ∙ take-append-add (take a xs) (ys ++ post_of a k xs) (length ys)
+    ∙ ap (λ (t : List ℕ). take a xs ++ t) (take-append_seam ys (post_of a k xs))
+
+none_behind : (digits behind : List ℕ) → length behind ≡ 0 → digits ++ behind ≡ digits
+none_behind digits [] h = append-nil digits
+none_behind digits (x ∷ t) h = absurd (omega (arith, h))
+
+one_behind : (a b behind : List ℕ) → length behind ≡ 1 → a ++ (b ++ behind) ≡ (a ++ b) ++ get_or behind 0 0 ∷ []
+one_behind a b [] h = absurd (omega (arith, h))
+one_behind a b (x ∷ []) h = sym (append_assoc a b (x ∷ []))
+one_behind a b (x ∷ (y ∷ t)) h = absurd (omega (arith, h))
+
+if_ok : {E : Type 0} (r : Result Bool E) (P Q : Bool → Type 0) → ((there : Bool) → P there → Q there) → IfOk r P → IfOk r Q
+if_ok (Ok there) P Q f h = f there h
+if_ok (Err e) P Q f h = h
+
+pub loop-bytes-init : goal.loop-bytes-init
 unfolding spelled
-spelled_more i [] p h e = pair_spells p e
-spelled_more zero (x ∷ digits) p h e = absurd (omega (arith, h))
-spelled_more (suc i) (x ∷ []) p h e = absurd (omega (arith, h))
-spelled_more (suc i) (x ∷ (y ∷ digits)) p h e = ap (λ (t : List ℕ). (digit_value x * 16 + digit_value y) ∷ t) (spelled_more i digits p (omega (arith, h)) e)
+loop-bytes-init g c = record { same_length = refl; in_bounds = search rules; read = ([], (Consumes-nil _, (refl, refl))) }
 
-one_more : (digits p bytes : List ℕ) (i v : ℕ) → length digits ≡ 2 * i → length p ≡ 2 → spelled digits ≡ take i bytes → i < length bytes → v ≡ byte_of p → spelled (digits ++ p) ≡ take (i + 1) (set bytes i v)
-one_more digits p bytes i v h e s k w =
-    spelled_more i digits p h e ∙ (λ j. s j ++ sym w j ∷ []) ∙ sym (take-suc-set bytes i v k) ∙ ap (λ (n : ℕ). take n (set bytes i v)) (sym (add-one i))
-
--- a list of one
-single : (p : List ℕ) → length p ≡ 1 → p ≡ get_or p 0 0 ∷ []
-single [] h = absurd (omega (arith, h))
-single (x ∷ []) h = refl
-single (x ∷ (y ∷ t)) h = absurd (omega (arith, h))
-
-pub loop-byte-init : goal.loop-byte-init
-unfolding spelled
-loop-byte-init g c = ([], (Consumes-nil _, (refl, refl)))
-
-pub loop-byte-preserved : goal.loop-byte-preserved
-loop-byte-preserved g c =
-    let l = c.loop-byte in
-    let p : List ℕ = c.read_full.new.buf in
-    let digits : List ℕ = l.invariant.0 in
-    let two : length p ≡ 2 = omega arith in
-    let all : take c.in_ok-read_full.field-0 p ≡ p = take_all c.in_ok-read_full.field-0 p (omega arith) in (
-      digits ++ p,
-      (
-        Consumes-trans _ _ _ _ _ l.invariant.1.0 (subst (λ (t : List ℕ). Consumes (g.R.Read.remaining l.input) (g.R.Read.remaining c.read_full.new.input) t) all c.in_ok-read_full.ensures.bytes),
-        (omega (arith, length-append digits p, l.invariant.1.1.0), one_more digits p l.bytes l.byte-index _ l.invariant.1.1.0 two l.invariant.1.1.1 (omega arith) (λ j. c.digit.ensures j * 16 + c.digit-in-loop-byte.ensures j)),
-      ),
-    )
+pub loop-bytes-preserved : goal.loop-bytes-preserved
+loop-bytes-preserved g c =
+    let l = c.loop-bytes in
+    let before = l.invariant.read in
+    let part = c.in_ok-read_part.ensures.all c.if-not-branch.false in
+    let new : List ℕ = c.read_part.new.bytes in
+    let long : length new ≡ 4200 = search rules in
+    let k : ℕ = (l.done + 4200) - l.done in
+    record {
+      same_length = search rules;
+      in_bounds = search rules;
+      read = (
+        before.0 ++ part.0,
+        (
+          Consumes-trans _ _ _ _ _ before.1.0 (subst (λ (t : List ℕ). Consumes (g.R.Read.remaining l.input) (g.R.Read.remaining c.read_part.new.input) t) (none_behind part.0 part.1 part.5) part.2),
+          (
+            omega (arith, length-append before.0 part.0, before.1.1.0, part.4, long),
+            spelled_more l.done before.0 part.0 before.1.1.0
+                ∙ (λ j. before.1.1.1 j ++ part.3 j)
+                ∙ sym (front_of_part l.done k l.bytes new l.invariant.in_bounds)
+                ∙ ap (λ (n : ℕ). take (l.done + n) (put_mid l.done k l.bytes new)) long,
+          ),
+        ),
+      );
+    }
 
 pub returns-clause-all : goal.returns-clause-all
 returns-clause-all g c =
-    let l = c.loop-byte in
-    let p : List ℕ = c.read_full-2.new.buf in
-    let digits : List ℕ = l.invariant.0 in
-    λ there.
-    let one : c.in_ok-read_full-2.field-0 ≡ 1 = eqb-true _ _ there in
-    let long : length p ≡ 1 = omega arith in
-    let all : take c.in_ok-read_full-2.field-0 p ≡ get_or p 0 0 ∷ [] = take_all c.in_ok-read_full-2.field-0 p (omega arith) ∙ single p long in (
-      digits,
-      get_or p 0 0,
-      Consumes-trans _ _ _ _ _ l.invariant.1.0 (subst (λ (t : List ℕ). Consumes (g.R.Read.remaining l.input) (g.R.Read.remaining c.read_full-2.new.input) t) all c.in_ok-read_full-2.ensures.bytes),
-      l.invariant.1.1.1 ∙ take_all l.byte-index l.bytes (omega arith),
-    )
+    let l = c.loop-bytes in
+    let before = l.invariant.read in
+    let new : List ℕ = c.read_part-2.new.bytes in
+    let k : ℕ = length l.bytes - l.done in
+    let long : length new ≡ k = search rules in
+    let same : length (put_mid l.done k l.bytes new) ≡ length l.bytes = search rules in
+    let whole : take l.done l.bytes ++ new ≡ put_mid l.done k l.bytes new =
+    sym (front_of_part l.done k l.bytes new l.invariant.in_bounds) ∙ take_all (l.done + length new) (put_mid l.done k l.bytes new) (omega (arith, same, long, l.invariant.in_bounds)) in
+    if_ok c.read_part-2.result _ _ (λ there h. λ e.
+    let part = h e in (
+      before.0 ++ part.0,
+      get_or part.1 0 0,
+      subst (λ (t : List ℕ). Consumes (g.R.Read.remaining c.args.input.now) (g.R.Read.remaining c.read_part-2.new.input) t) (one_behind before.0 part.0 part.1 part.5) (Consumes-trans _ _ _ _ _ before.1.0 part.2),
+      spelled_more l.done before.0 part.0 before.1.1.0 ∙ (λ j. before.1.1.1 j ++ part.3 j) ∙ whole,
+    )) c.read_part-2.ensures.all
