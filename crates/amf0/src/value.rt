@@ -1,6 +1,9 @@
 // What stands at a place of a body: a value's marker and what follows it.
-ghost use Rattle.std.specs.Prelude.{◌≡◌};
-ghost use Rattle.amf0.specs.declared.value.Amf0Value.TheVariants.{LongText, Text};
+ghost use Rattle.std.specs.Prelude.{◌≡◌, ◌≤◌, length};
+ghost use Rattle.amf0.specs.declared.value.Amf0Value.TheVariants.{LongText, Number, Text};
+ghost use Rattle.std.specs.Float.{binary64};
+ghost use Rattle.std.specs.Float.Ieee.{of_bits};
+ghost use Rattle.numbers.specs.Fields.{field_at};
 ghost use Rattle.amf0.specs.Reading.{by_marker, extent, extent_at, held, name_at, past, read_at, text_at};
 
 use crate::error::BodyError;
@@ -49,47 +52,74 @@ pub enum NameAt {
 pub fn past(body: &[u8], p: usize, n: usize) -> Option<usize>
     ensures { result ≡ past body.now p n }
 {
-    if n <= body.len().checked_sub(p)? {
-        return Some(p + n);
+    if p <= body.len() && n <= body.len() - p {
+        Some(p + n)
+    } else {
+        None
     }
-    None
 }
 
 // The value, if the n bytes from p on are in the body.
+#[tactic(auto, using(crate::proofs::ReadingLaws::past_yes, crate::proofs::ReadingLaws::past_no))]
 fn hold(body: &[u8], p: usize, n: usize, value: Amf0Value) -> Option<Read>
+    requires { p ≤ length body.now }
     ensures { result ≡ held body.now p n value }
 {
-    Some(Read {
-        value,
-        next: past(body, p, n)?,
-    })
+    if n <= body.len() - p {
+        Some(Read { value, next: p + n })
+    } else {
+        None
+    }
+}
+
+// Read only where all eight bytes are there, so as one word.
+#[tactic(auto, using(crate::proofs::ReadingLaws::past_yes, crate::proofs::ReadingLaws::past_no))]
+fn read_number(body: &[u8], p: usize) -> Option<Read>
+    requires { p ≤ length body.now }
+    ensures { result ≡ held body.now p 8 (Number (of_bits binary64 (field_at 8 body.now p))) }
+{
+    if body.len() - p < 8 {
+        return None;
+    }
+    hold(body, p, 8, Amf0Value::Number(f64_of(u64_at(body, p))))
 }
 
 // A text after its length of two bytes. Every string is read here.
+#[tactic(auto, using(crate::proofs::ReadingLaws::past_yes, crate::proofs::ReadingLaws::past_no))]
 fn read_text(body: &[u8], p: usize) -> Option<Read>
+    requires { p ≤ length body.now }
     ensures { result ≡ text_at 2 Text body.now p }
 {
-    let start = past(body, p, 2)?;
+    if body.len() - p < 2 {
+        return None;
+    }
     let len = u16_at(body, p) as usize;
+    let start = p + 2;
     hold(body, start, len, Amf0Value::Text { start, len })
 }
 
 // A long string after its length of four bytes. One function for both would take the width, its reader and the case.
+#[tactic(auto, using(crate::proofs::ReadingLaws::past_yes, crate::proofs::ReadingLaws::past_no))]
 fn read_long_text(body: &[u8], p: usize) -> Option<Read>
+    requires { p ≤ length body.now }
     ensures { result ≡ text_at 4 LongText body.now p }
 {
-    let start = past(body, p, 4)?;
+    if body.len() - p < 4 {
+        return None;
+    }
     let len = u32_at(body, p) as usize;
+    let start = p + 4;
     hold(body, start, len, Amf0Value::LongText { start, len })
 }
 
 // What the marker m says of the bytes from p on, which follow it. Markers are the format's own numbers, told apart here alone.
 #[tactic(auto, unfolding(crate::specs::Reading::by_marker))]
 fn read_marked(body: &[u8], p: usize, m: u8) -> Option<Read>
+    requires { p ≤ length body.now }
     ensures { result ≡ by_marker body.now p m }
 {
     match m {
-        0x00 => hold(body, p, 8, Amf0Value::Number(f64_of(u64_at(body, p)))),
+        0x00 => read_number(body, p),
         0x01 => hold(body, p, 1, Amf0Value::Boolean(byte_at(body, p) != 0)),
         0x02 => read_text(body, p),
         0x03 => hold(body, p, 0, Amf0Value::Object { start: p }),
@@ -104,12 +134,14 @@ fn read_marked(body: &[u8], p: usize, m: u8) -> Option<Read>
 }
 
 // What stands at a place: a value, or none where the body has ended, the marker is unknown or the value is cut.
-#[tactic(auto, using(crate::proofs::ReadingLaws::past_in), unfolding(crate::specs::Reading::read_at))]
+// Inlined, so that a reader that asks where it ends alone makes no value.
+#[tactic(auto, using(crate::proofs::ReadingLaws::past_yes, crate::proofs::ReadingLaws::past_no), unfolding(crate::specs::Reading::read_at))]
+#[inline(always)]
 pub fn read_value(body: &[u8], at: usize) -> Option<Read>
     ensures { result ≡ read_at body.now at }
 {
-    let p = past(body, at, 1)?;
-    read_marked(body, p, body[at])
+    let marker = *body.get(at)?;
+    read_marked(body, at + 1, marker)
 }
 
 // How far it goes. Whether a value holds pairs is asked here alone.

@@ -6,7 +6,12 @@ ghost use Rattle.numbers.specs.Fields.{bytes_of, field_at, front, over};
 fn byte_past(s: &[u8], at: usize, i: usize) -> u8
     ensures { result ≡ get_or s.now (at + i) 0 }
 {
-    s.get(at.saturating_add(i)).copied().unwrap_or(0)
+    // Two tests that no sum can wrap: so the bytes of a field are read as one word.
+    if at < s.len() && i < s.len() - at {
+        s[at + i]
+    } else {
+        0
+    }
 }
 
 // The n bytes from `at` on as one number, the highest first.
