@@ -21,6 +21,7 @@ pub use property::last_property;
 pub use skip::{NESTED, skip_value};
 pub use value::{Amf0Value, Read, read_value};
 pub use write::{
-    write_boolean_at, write_name_at, write_null_at, write_number_at, write_object_begin_at,
-    write_object_end_at, write_string_at,
+    write_boolean, write_boolean_at, write_name, write_name_at, write_null, write_null_at,
+    write_number, write_number_at, write_object_begin, write_object_begin_at, write_object_end,
+    write_object_end_at, write_string, write_string_at,
 };
