@@ -13,12 +13,15 @@ use Rattle.wishes.specs.declared.outcome.Refusal.{Refusal}
 use Rattle.wishes.specs.declared.outcome.Refusal.TheVariants.{NameTooLong, NumbersUsedUp, RequestsFull}
 use Rattle.wishes.specs.declared.wish.PlayArguments.{PlayArguments}
 use Rattle.wishes.specs.declared.wish.PlayFault.{PlayFault}
+use Rattle.wishes.specs.declared.wish.PlayFault.TheVariants.{KeyNoString as PlayKeyNoString}
 use Rattle.wishes.specs.declared.wish.PublishArguments.{PublishArguments}
 use Rattle.wishes.specs.declared.wish.PublishFault.{PublishFault}
+use Rattle.wishes.specs.declared.wish.PublishFault.TheVariants.{KeyNoString, ModeNoString, ModeUnknown}
 use Rattle.session.specs.declared.decision.CommandFault.{CommandFault}
+use Rattle.session.specs.declared.decision.CommandFault.TheVariants.{PublishFew, PublishUnconnected, PublishUnknownMode, PlayFew, PlayUnconnected}
 use Rattle.session.specs.declared.decision.Decision.{Decision}
 use Rattle.session.specs.declared.desk.Desk.{Desk}
-use Rattle.steps.specs.Commands.{asked, failing, may_ask, on_asked, on_room, play, publish, request_room}
+use Rattle.steps.specs.Commands.{asked, failing, may_ask, on_asked, on_room, play, play_fault, publish, publish_fault, request_room}
 
 abbrev pub Open : Desk → Option Name → Name → Type 0
 Open d name n = (name ≡ Some n) × ((d.next_request ≡ 4294967295 → ⊥) × (d.request_count < 16))
@@ -71,8 +74,15 @@ module _ (d : Desk) (name : Option Name) where
           go (Err r) = refl
 
 -- ---- by the arguments
-pub fault_told : (d : Desk) (u f : CommandFault) (b : Bool) → d.connected ≡ b → pick b f u ≡ pick d.connected f u
-fault_told d u f b q = ap (λ (x : Bool). pick x f u) (sym q)
+-- each fault that counts behind "connected", by whether there is a connection
+pub fault_told : (d : Desk) (b : Bool) → d.connected ≡ b
+    → (pick b PublishFew PublishUnconnected ≡ publish_fault d.connected KeyNoString)
+    × ((pick b PublishFew PublishUnconnected ≡ publish_fault d.connected ModeNoString)
+    × ((pick b PublishUnknownMode PublishUnconnected ≡ publish_fault d.connected ModeUnknown)
+    × (pick b PlayFew PlayUnconnected ≡ play_fault d.connected PlayKeyNoString)))
+fault_told d b q =
+    let told : (f u : CommandFault) → pick b f u ≡ pick d.connected f u = λ f u. ap (λ (x : Bool). pick x f u) (sym q) in
+    (told _ _, (told _ _, (told _ _, told _ _)))
 
 pub publish_told : (d : Desk) (id : StreamId) (t : ℕ) (x y : Result PublishArguments PublishFault) (a : Decision) → a ≡ publish d id t y → x ≡ y → a ≡ publish d id t x
 publish_told d id t x y a e q = e ∙ ap (publish d id t) (sym q)
