@@ -1,14 +1,15 @@
 // Audio and video messages. The session stays as it is.
 ghost use Rattle.std.specs.Prelude.{◌≡◌, None};
+ghost use Rattle.streams.specs.Streams.{frame_of};
 ghost use Rattle.image.specs.Image.{readable_at, session_at, session_read};
 ghost use Rattle.host.specs.Frames.{frame_by, frame_shown, hosted_media, media_of};
 
-use desks::frame_in;
+use desks::{connected_in, stream_in};
 use image::{Image, image_sound};
 use parts::{event_numbers, show_media};
 use session::Event;
-use streams::Frame;
-use text::{StreamId, empty_name};
+use tables::StreamState;
+use text::{Name, StreamId, empty_name};
 
 fn show_nothing(media: &mut [u64; 4], words: &mut [[u8; 128]; 2])
     ensures { (media.new, words.new) ≡ frame_shown None }
@@ -16,29 +17,67 @@ fn show_nothing(media: &mut [u64; 4], words: &mut [[u8; 128]; 2])
     show_media(media, words, 0, 0, empty_name(), empty_name());
 }
 
-fn show_frame(media: &mut [u64; 4], words: &mut [[u8; 128]; 2], frame: Option<Frame>)
-    ensures { (media.new, words.new) ≡ frame_shown frame }
+// An event only where the stream is publishing: from its row to the host's arrays, with no frame made between, which costs two copies.
+#[tactic(auto, unfolding(streams::specs::Streams::frame_of, session::specs::State::connected, image::specs::Image::session_at))]
+fn show_event(
+    media: &mut [u64; 4],
+    words: &mut [[u8; 128]; 2],
+    image: Image,
+    id: StreamId,
+    event: Event,
+)
+    ensures { (media.new, words.new) ≡ frame_shown (frame_of (session_read image.entry) id event) }
 {
-    match frame {
-        Some(frame) => {
-            let numbers = event_numbers(Some(frame.event));
-            show_media(media, words, numbers[0], numbers[9], frame.app, frame.key);
+    if !connected_in(image.facts) {
+        show_nothing(media, words);
+        return;
+    }
+    let Some(stream) = stream_in(image, id) else {
+        show_nothing(media, words);
+        return;
+    };
+    match stream.state {
+        StreamState::Publishing => {
+            let numbers = event_numbers(Some(event));
+            let app = Name {
+                bytes: image.names[1],
+                len: image.facts[4] as usize,
+            };
+            show_media(media, words, numbers[0], numbers[9], app, stream.key);
         }
-        None => show_nothing(media, words),
+        _ => show_nothing(media, words),
     }
 }
 
 // The kind is the number that C hands in.
 #[tactic(auto, unfolding(crate::specs::Frames::frame_by))]
-fn frame_by(image: Image, kind: u8, id: StreamId, timestamp: u32) -> Option<Frame>
-    ensures { result ≡ frame_by kind (session_read image.entry) id timestamp }
+fn show_frame(
+    media: &mut [u64; 4],
+    words: &mut [[u8; 128]; 2],
+    image: Image,
+    kind: u8,
+    id: StreamId,
+    timestamp: u32,
+)
+    ensures { (media.new, words.new) ≡ frame_shown (frame_by kind (session_read image.entry) id timestamp) }
 {
-    let event = match kind {
-        8 => Event::AudioDataReceived { timestamp },
-        9 => Event::VideoDataReceived { timestamp },
-        _ => return None,
-    };
-    frame_in(image, id, event)
+    match kind {
+        8 => show_event(
+            media,
+            words,
+            image,
+            id,
+            Event::AudioDataReceived { timestamp },
+        ),
+        9 => show_event(
+            media,
+            words,
+            image,
+            id,
+            Event::VideoDataReceived { timestamp },
+        ),
+        _ => show_nothing(media, words),
+    }
 }
 
 // An audio (kind 8) or a video (kind 9) message.
@@ -65,7 +104,6 @@ pub fn chungvator_handle_media(
         requests,
         names,
     };
-    let frame = frame_by(image, kind, StreamId(stream), timestamp);
-    show_frame(media, words, frame);
+    show_frame(media, words, image, kind, StreamId(stream), timestamp);
     0
 }
