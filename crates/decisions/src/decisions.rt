@@ -28,7 +28,7 @@ fn settle(found: bool, action: Action, request: Request, reply: Reply, stream: S
         action,
         stream: request.stream,
     };
-    refused_with(refusal, of_request(Effect::RequestRemoved, request))
+    refused_with(Err(refusal), of_request(Effect::RequestRemoved, request))
 }
 
 fn publishing_stream(request: Request) -> Stream
@@ -89,7 +89,7 @@ pub fn accept(waiting: Option<Request>, found: bool) -> Decision
 {
     match waiting {
         Some(request) => grant(request.kind, request, found),
-        None => refused(Refusal::NoSuchRequest),
+        None => refused(Err(Refusal::NoSuchRequest)),
     }
 }
 
@@ -114,10 +114,10 @@ pub fn reject(waiting: Option<Request>, short: bool) -> Decision
     ensures { result ≡ reject_request waiting short }
 {
     let Some(request) = waiting else {
-        return refused(Refusal::NoSuchRequest);
+        return refused(Err(Refusal::NoSuchRequest));
     };
     if !short {
-        return refused(Refusal::TextTooLong);
+        return refused(Err(Refusal::TextTooLong));
     }
     replied(
         reject_reply(request.kind, request),
@@ -129,10 +129,10 @@ pub fn reject(waiting: Option<Request>, short: bool) -> Decision
 fn not_playing(id: StreamId) -> Decision
     ensures { result ≡ refusing (WrongStream Completes id) }
 {
-    refused(Refusal::WrongStream {
+    refused(Err(Refusal::WrongStream {
         action: Action::Complete,
         stream: id,
-    })
+    }))
 }
 
 fn completed_stream(id: StreamId) -> Stream

@@ -42,7 +42,7 @@ pub fn decided_in(image: Image, stream: StreamId, read: Result<Wish, Refusal>) -
             let desk = desk_in(image, subject(wish, stream));
             decide(desk, stream, wish)
         }
-        Err(refusal) => refused(refusal),
+        Err(refusal) => refused(Err(refusal)),
     }
 }
 

@@ -22,7 +22,7 @@ fn decide_read(session: Session, stream: StreamId, read: Result<Wish, Refusal>) 
 {
     match read {
         Ok(wish) => decide(desk_of(session, subject(wish, stream)), stream, wish),
-        Err(refusal) => refused(refusal),
+        Err(refusal) => refused(Err(refusal)),
     }
 }
 

@@ -4,6 +4,7 @@ use Rattle.text.specs.declared.names.Name.{Name}
 use Rattle.metadata.specs.Metadata.{no_metadata}
 use Rattle.metadata.specs.declared.metadata.StreamMetadata.{StreamMetadata}
 use Rattle.std.specs.Prelude.{Some, None, Ok, Err}
+use Rattle.wishes.specs.Outcome.{Outcome}
 use Rattle.wishes.specs.declared.outcome.Refusal.{Refusal}
 use Rattle.session.specs.Changes.{no_change}
 use Rattle.session.specs.declared.changes.Change.{Change}
@@ -30,3 +31,11 @@ refusing_with refusal c = record { outcome = Err refusal; event = None; app = em
 
 abbrev pub refusing : Refusal → Decision
 refusing refusal = refusing_with refusal no_change
+
+-- of an outcome alone: done quietly, or refused
+abbrev pub concluding_with : Outcome → Change → Decision
+concluding_with (Ok _) c = quietly c
+concluding_with (Err refusal) c = refusing_with refusal c
+
+abbrev pub concluding : Outcome → Decision
+concluding outcome = concluding_with outcome no_change

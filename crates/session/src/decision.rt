@@ -1,12 +1,12 @@
 // What a session decides of a wish or a call.
 ghost use Rattle.std.specs.Prelude.{◌≡◌};
-ghost use Rattle.session.specs.Decisions.{nothing, quietly, raising, refusing, refusing_with, replying};
+ghost use Rattle.session.specs.Decisions.{concluding, concluding_with, nothing, quietly, raising, replying};
 
 use crate::changes::{Change, no_change};
 use metadata::{StreamMetadata, no_metadata};
 use numbers::PlayStartValue;
 use text::{Name, PublishMode, RequestId, StreamId, empty_name};
-use wishes::{Outcome, Refusal};
+use wishes::Outcome;
 
 // The Rust's events. The app, the key and the metadata stand beside the event.
 #[derive(Clone, Copy, Debug, PartialEq, Eq)]
@@ -108,20 +108,20 @@ pub fn nothing_done() -> Decision
     quiet(no_change())
 }
 
-// A refusal that changes something: 11 from an accept.
-pub fn refused_with(refusal: Refusal, change: Change) -> Decision
-    ensures { result ≡ refusing_with refusal change }
+// A refusal that changes something: 11 from an accept. Of no refusal it is `quiet`.
+pub fn refused_with(outcome: Outcome, change: Change) -> Decision
+    ensures { result ≡ concluding_with outcome change }
 {
     Decision {
-        outcome: Err(refusal),
+        outcome,
         ..quiet(change)
     }
 }
 
-pub fn refused(refusal: Refusal) -> Decision
-    ensures { result ≡ refusing refusal }
+pub fn refused(outcome: Outcome) -> Decision
+    ensures { result ≡ concluding outcome }
 {
-    refused_with(refusal, no_change())
+    refused_with(outcome, no_change())
 }
 
 pub fn replied(reply: Reply, name: Name, change: Change) -> Decision

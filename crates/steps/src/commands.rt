@@ -31,7 +31,7 @@ pub fn connect(desk: Desk, transaction: u64, encoding: u64, app: Option<Name>) -
 {
     let app = match request_room(desk, app) {
         Ok(app) => app,
-        Err(refusal) => return refused(refusal),
+        Err(refusal) => return refused(Err(refusal)),
     };
     let id = RequestId(desk.next_request);
     let request = Request {
@@ -80,7 +80,7 @@ fn may_ask(
     if !desk.connected {
         return Err(fail(transaction, unconnected, stream));
     }
-    request_room(desk, key).map_err(|refusal| refused(refusal))
+    request_room(desk, key).map_err(|refusal| refused(Err(refusal)))
 }
 
 // A missing argument counts before a missing connection, the other faults behind it.

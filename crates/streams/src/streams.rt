@@ -35,10 +35,10 @@ pub fn create_stream(desk: Desk, transaction: u64) -> Decision
     ensures { result ≡ create_stream desk transaction }
 {
     if desk.next_stream == u32::MAX {
-        return refused(Refusal::NumbersUsedUp);
+        return refused(Err(Refusal::NumbersUsedUp));
     }
     if 16 <= desk.stream_count {
-        return refused(Refusal::StreamsFull);
+        return refused(Err(Refusal::StreamsFull));
     }
     let stream = StreamId(desk.next_stream);
     replied(
@@ -112,7 +112,7 @@ fn describe(
         (StreamState::Publishing, Ok(m)) => {
             raised(Event::StreamMetadataChanged, app, key, m, no_change())
         }
-        (StreamState::Publishing, Err(_)) => refused(Refusal::NameTooLong),
+        (StreamState::Publishing, Err(_)) => refused(Err(Refusal::NameTooLong)),
         _ => nothing_done(),
     }
 }
