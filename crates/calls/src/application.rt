@@ -25,7 +25,7 @@ pub fn accept_request(session: Session, id: RequestId, clock: u64, out: &mut [u8
     ensures { (result, out.new) ≡ accepting session id clock out.old }
 {
     if !session_sound(session) {
-        return refuse(Refusal::BadSession, session);
+        return refuse(Err(Refusal::BadSession), session);
     }
     let waiting = request_at(session, id);
     let decision = accept(waiting, stream_stands(session, waiting));
@@ -44,7 +44,7 @@ pub fn reject_request(
     ensures { (result, out.new) ≡ rejecting session id code.now description.now clock out.old }
 {
     if !session_sound(session) {
-        return refuse(Refusal::BadSession, session);
+        return refuse(Err(Refusal::BadSession), session);
     }
     let waiting = request_at(session, id);
     let decision = reject(waiting, are_short(code, description));
@@ -56,7 +56,7 @@ pub fn finish_playing(session: Session, id: StreamId, clock: u64, out: &mut [u8]
     ensures { (result, out.new) ≡ finishes session id clock out.old }
 {
     if !session_sound(session) {
-        return refuse(Refusal::BadSession, session);
+        return refuse(Err(Refusal::BadSession), session);
     }
     let decision = finish(stream_at(session, id), id);
     finish_call(session, decision, b"", b"", clock, out)

@@ -34,13 +34,13 @@ pub fn start(
     ensures { (result, out.new) ≡ starting chunk_size window_ack_size peer_bandwidth on_bw_done fms_version.now clock out.old }
 {
     if config_bad(chunk_size, fms_version) {
-        return refuse(Refusal::BadConfig, blank_session());
+        return refuse(Err(Refusal::BadConfig), blank_session());
     }
     let Some(version) = read_name(fms_version) else {
-        return refuse(Refusal::BadConfig, blank_session());
+        return refuse(Err(Refusal::BadConfig), blank_session());
     };
     match start_records(out, chunk_size, window_ack_size, peer_bandwidth, on_bw_done) {
         Some(count) => idle_answer(fresh_session(clock, version), count),
-        None => refuse(Refusal::NoRoom, blank_session()),
+        None => refuse(Err(Refusal::NoRoom), blank_session()),
     }
 }

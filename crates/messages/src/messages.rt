@@ -95,7 +95,7 @@ pub fn handle_message(
     ensures { (result, out.new) ≡ handle_message session kind stream timestamp clock body.now out.old }
 {
     if !session_sound(session) {
-        return refuse(Refusal::BadSession, session);
+        return refuse(Err(Refusal::BadSession), session);
     }
     by_type(session, kind, stream, timestamp, clock, body, out)
 }

@@ -3,6 +3,7 @@ use Rattle.std.specs.Prelude.{ℕ, List, Option, Some, None, Ok, Err}
 use Rattle.text.specs.Names.{empty_name}
 use Rattle.metadata.specs.Metadata.{no_metadata}
 use Rattle.answers.specs.Sending.{sent}
+use Rattle.wishes.specs.Outcome.{Outcome}
 use Rattle.wishes.specs.declared.outcome.Refusal.{Refusal}
 use Rattle.wishes.specs.declared.outcome.Refusal.TheVariants.{NoRoom}
 use Rattle.session.specs.Changes.{applied}
@@ -17,6 +18,11 @@ refusal why s = record { outcome = Err why; event = None; app = empty_name; key 
 -- done, with no event
 abbrev pub idle : Session → ℕ → Answer
 idle s n = record { outcome = Ok tt; event = None; app = empty_name; key = empty_name; metadata = no_metadata; count = n; session = s }
+
+-- of an outcome alone: done with nothing written, or refused
+abbrev pub concluded : Outcome → Session → Answer
+concluded (Ok _) s = idle s 0
+concluded (Err why) s = refusal why s
 
 abbrev pub answer_with : Session → Decision → ℕ → Answer
 answer_with next d n = record { outcome = d.outcome; event = d.event; app = d.app; key = d.key; metadata = d.metadata; count = n; session = next }

@@ -1,6 +1,6 @@
 // What a call hands back.
 ghost use Rattle.std.specs.Prelude.{◌≡◌};
-ghost use Rattle.replies.specs.Answers.{answer_with, closed, idle, refusal};
+ghost use Rattle.replies.specs.Answers.{answer_with, closed, concluded, idle};
 
 use metadata::{StreamMetadata, no_metadata};
 use session::{Decision, Event, Session, apply};
@@ -19,11 +19,12 @@ pub struct Answer {
     pub session: Session,
 }
 
-pub fn refuse(why: Refusal, session: Session) -> Answer
-    ensures { result ≡ refusal why session }
+// A refusal, with nothing written. Of no refusal it is `idle_answer`.
+pub fn refuse(outcome: Outcome, session: Session) -> Answer
+    ensures { result ≡ concluded outcome session }
 {
     Answer {
-        outcome: Err(why),
+        outcome,
         ..idle_answer(session, 0)
     }
 }
@@ -64,6 +65,6 @@ pub fn close(session: Session, decision: Decision, sent: Option<usize>) -> Answe
     let next = apply(session, decision.change);
     match sent {
         Some(count) => answer_with(next, decision, count),
-        None => refuse(Refusal::NoRoom, session),
+        None => refuse(Err(Refusal::NoRoom), session),
     }
 }
