@@ -8,7 +8,7 @@ ghost use Rattle.image.specs.Image.{session_read};
 use crate::seen::{connected_in, request_in, stream_in};
 use decisions::{accept, finish, reject};
 use image::{Image, short_number};
-use session::{Decision, Desk, refused};
+use session::{Decision, Desk};
 use steps::{decide, subject};
 use tables::Request;
 use text::{Name, RequestId, StreamId};
@@ -37,13 +37,8 @@ fn desk_in(image: Image, id: StreamId) -> Desk
 pub fn decided_in(image: Image, stream: StreamId, read: Result<Wish, Refusal>) -> Decision
     ensures { result ≡ decided (session_read image.entry) stream read }
 {
-    match read {
-        Ok(wish) => {
-            let desk = desk_in(image, subject(wish, stream));
-            decide(desk, stream, wish)
-        }
-        Err(refusal) => refused(Err(refusal)),
-    }
+    let desk = desk_in(image, subject(read, stream));
+    decide(desk, stream, read)
 }
 
 // Whether the stream of a waiting request is there.

@@ -4,7 +4,7 @@ ghost use Rattle.messages.specs.Messages.{by_type, frame_answer, handle_media, h
 ghost use Rattle.steps.specs.Deciding.{decided};
 
 use replies::{Answer, finish_call, idle_answer, refuse};
-use session::{Decision, Event, Session, desk_of, refused, session_sound};
+use session::{Decision, Event, Session, desk_of, session_sound};
 use steps::{decide, subject};
 use streams::{Frame, frame_of};
 use text::StreamId;
@@ -20,10 +20,8 @@ pub enum MediaKind {
 fn decide_read(session: Session, stream: StreamId, read: Result<Wish, Refusal>) -> Decision
     ensures { result ≡ decided session stream read }
 {
-    match read {
-        Ok(wish) => decide(desk_of(session, subject(wish, stream)), stream, wish),
-        Err(refusal) => refused(Err(refusal)),
-    }
+    let desk = desk_of(session, subject(read, stream));
+    decide(desk, stream, read)
 }
 
 fn by_wish(

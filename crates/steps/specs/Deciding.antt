@@ -30,6 +30,11 @@ subject_of (Metadata read) x = x
 subject_of (PingRequest v) x = x
 subject_of (PingResponse v) x = x
 
+-- and of what was read of a message
+abbrev pub subject_read : Result Wish Refusal → StreamId → StreamId
+subject_read (Ok w) x = subject_of w x
+subject_read (Err r) x = x
+
 -- of a wish, with the stream in question at hand
 -- "event 6 is answered by event 7 with the same four bytes; 7 raises PingResponseReceived; others nothing"
 unfoldable pub decide : Desk → StreamId → Wish → Decision
@@ -44,7 +49,10 @@ decide d x (Metadata read) = change_metadata d read
 decide d x (PingRequest v) = replying (Pong v) empty_name no_change
 decide d x (PingResponse v) = raising (PingResponseReceived v) empty_name empty_name no_metadata no_change
 
--- of what was read of a message
+-- of what was read of a message, with the stream in question at hand
+abbrev pub decide_read : Desk → StreamId → Result Wish Refusal → Decision
+decide_read d x (Ok w) = decide d x w
+decide_read d x (Err r) = refusing r
+
 unfoldable pub decided : Session → StreamId → Result Wish Refusal → Decision
-decided s x (Ok w) = decide (desk_of s (subject_of w x)) x w
-decided s x (Err r) = refusing r
+decided s x read = decide_read (desk_of s (subject_read read x)) x read

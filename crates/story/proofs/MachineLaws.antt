@@ -28,7 +28,7 @@ use Rattle.wishes.specs.declared.wish.Wish.{Wish}
 use Rattle.wishes.specs.declared.wish.Wish.TheVariants.{CreateStream, CloseStream, DeleteStream, Metadata}
 use Rattle.wishes.specs.declared.wish.Wish.TheVariants.{Connect as ConnectWish, Publish as PublishWish, Play as PlayWish}
 use Rattle.session.specs.Changes.{applied}
-use Rattle.session.specs.Decisions.{nothing, refusing}
+use Rattle.session.specs.Decisions.{nothing}
 use Rattle.session.specs.State.{connected, request_of, stream_of, with_changed, with_request, with_stream, without_request, without_stream}
 use Rattle.session.specs.declared.changes.Effect.{Effect}
 use Rattle.session.specs.declared.changes.Effect.TheVariants.{StreamMade, StreamSet, StreamRemoved, StreamAccepted}
@@ -40,7 +40,7 @@ use Rattle.session.specs.declared.session.Session.{Session}
 use Rattle.streams.specs.Streams.{create_stream, created, on_stream, shown_found}
 use Rattle.streams.specs.declared.streams.Frame.{Frame}
 use Rattle.steps.specs.Commands.{asked, on_asked, play, publish, request_room}
-use Rattle.steps.specs.Deciding.{decide}
+use Rattle.steps.specs.Deciding.{decide, decide_read}
 use Rattle.decisions.specs.Answers.{accept_request, completed, finish_playing, granted, reject_request, rejection}
 use Rattle.replies.specs.Replies.{short}
 use Rattle.story.specs.Steps.{Call, Response, accept, finish, media, message, reject}
@@ -61,11 +61,6 @@ desk_for app x o = record { connected = true; app = app; next_stream = x; next_r
 
 abbrev pub frame_seen : Desk → Event → Option Frame
 frame_seen d e = pick d.connected (option_and_then (shown_found e d.app) d.seen) None
-
--- of what was read of a message
-abbrev pub decide_read : Desk → StreamId → Result Wish Refusal → Decision
-decide_read d x (Ok w) = decide d x w
-decide_read d x (Err r) = refusing r
 
 abbrev pub desk_decision : Desk → Doing → Decision
 desk_decision d (Wants y w) = decide_read d y w
