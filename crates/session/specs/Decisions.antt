@@ -3,7 +3,7 @@ use Rattle.text.specs.Names.{empty_name}
 use Rattle.text.specs.declared.names.Name.{Name}
 use Rattle.metadata.specs.Metadata.{no_metadata}
 use Rattle.metadata.specs.declared.metadata.StreamMetadata.{StreamMetadata}
-use Rattle.std.specs.Prelude.{Some, None, Ok, Err}
+use Rattle.std.specs.Prelude.{Option, None, Ok, Err}
 use Rattle.wishes.specs.Outcome.{Outcome}
 use Rattle.wishes.specs.declared.outcome.Refusal.{Refusal}
 use Rattle.session.specs.Changes.{no_change}
@@ -22,8 +22,8 @@ quietly c = replying Nothing empty_name c
 abbrev pub nothing : Decision
 nothing = quietly no_change
 
-abbrev pub raising : Event → Name → Name → StreamMetadata → Change → Decision
-raising event app key metadata c = record { outcome = Ok tt; event = Some event; app = app; key = key; metadata = metadata; reply = Nothing; name = empty_name; change = c }
+abbrev pub raising : Option Event → Name → Name → StreamMetadata → Change → Decision
+raising event app key metadata c = record { outcome = Ok tt; event = event; app = app; key = key; metadata = metadata; reply = Nothing; name = empty_name; change = c }
 
 -- "Every refusal leaves session and out buffer unchanged and raises nothing; only 11 from an accept removes the request."
 abbrev pub refusing_with : Refusal → Change → Decision

@@ -135,7 +135,7 @@ pub fn replied(reply: Reply, name: Name, change: Change) -> Decision
 }
 
 pub fn raised(
-    event: Event,
+    event: Option<Event>,
     app: Name,
     key: Name,
     metadata: StreamMetadata,
@@ -144,7 +144,7 @@ pub fn raised(
     ensures { result ≡ raising event app key metadata change }
 {
     Decision {
-        event: Some(event),
+        event,
         app,
         key,
         metadata,

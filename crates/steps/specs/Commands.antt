@@ -1,5 +1,5 @@
 -- connect, publish and play: requests to be filed.
-use Rattle.std.specs.Prelude.{ℕ, Bool, Option, Result, Ok, Err, eqb, leb}
+use Rattle.std.specs.Prelude.{ℕ, Bool, Option, Some, Result, Ok, Err, eqb, leb}
 use Rattle.numbers.specs.Choose.{pick}
 use Rattle.text.specs.Names.{empty_name}
 use Rattle.text.specs.declared.ids.RequestId.{RequestId}
@@ -52,7 +52,7 @@ connect_request d transaction app = record { id = following_request d; kind = Co
 abbrev pub connect : Desk → ℕ → ℕ → Option Name → Decision
 connect d transaction encoding app =
     on_room (request_room d app) λ n.
-    raising (ConnectionRequested (following_request d)) n empty_name no_metadata (filing_connect (connect_request d transaction n) encoding)
+    raising (Some (ConnectionRequested (following_request d))) n empty_name no_metadata (filing_connect (connect_request d transaction n) encoding)
 
 -- ---- an error record
 abbrev pub failing : ℕ → CommandFault → StreamId → Decision
@@ -77,7 +77,7 @@ on_asked (Err d) f = d
 abbrev pub publish_good : Desk → StreamId → ℕ → PublishArguments → Decision
 publish_good d stream transaction a =
     on_asked (may_ask d stream transaction PublishUnconnected a.key) λ key.
-    raising (PublishStreamRequested (following_request d) a.mode) d.app key no_metadata (filing_of (publish_request d stream a.mode key))
+    raising (Some (PublishStreamRequested (following_request d) a.mode)) d.app key no_metadata (filing_of (publish_request d stream a.mode key))
 
 -- the fault of an argument that is there counts behind "connected"
 abbrev pub publish_fault : Bool → PublishFault → CommandFault
@@ -97,7 +97,7 @@ play_request d stream key = record { id = following_request d; kind = Play; stre
 abbrev pub play_good : Desk → StreamId → ℕ → PlayArguments → Decision
 play_good d stream transaction a =
     on_asked (may_ask d stream transaction PlayUnconnected a.key) λ key.
-    raising (PlayStreamRequested (following_request d) a.start a.duration a.reset stream) d.app key no_metadata (filing_of (play_request d stream key))
+    raising (Some (PlayStreamRequested (following_request d) a.start a.duration a.reset stream)) d.app key no_metadata (filing_of (play_request d stream key))
 
 abbrev pub play_fault : Bool → PlayFault → CommandFault
 play_fault connected PlayTooFew = PlayFew

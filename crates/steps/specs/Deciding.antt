@@ -1,5 +1,5 @@
 -- What a session makes of a wish; x is the message's stream.
-use Rattle.std.specs.Prelude.{Result, Ok, Err}
+use Rattle.std.specs.Prelude.{Some, Result, Ok, Err}
 use Rattle.text.specs.Names.{empty_name}
 use Rattle.text.specs.declared.ids.StreamId.{StreamId}
 use Rattle.metadata.specs.Metadata.{no_metadata}
@@ -47,7 +47,7 @@ decide d x (Publish transaction arguments) = publish d x transaction arguments
 decide d x (Play transaction arguments) = play d x transaction arguments
 decide d x (Metadata read) = change_metadata d read
 decide d x (PingRequest v) = replying (Pong v) empty_name no_change
-decide d x (PingResponse v) = raising (PingResponseReceived v) empty_name empty_name no_metadata no_change
+decide d x (PingResponse v) = raising (Some (PingResponseReceived v)) empty_name empty_name no_metadata no_change
 
 -- of what was read of a message, with the stream in question at hand
 abbrev pub decide_read : Desk → StreamId → Result Wish Refusal → Decision

@@ -44,7 +44,7 @@ pub fn connect(desk: Desk, transaction: u64, encoding: u64, app: Option<Name>) -
     };
     let change = of_request(Effect::ConnectFiled { encoding }, request);
     raised(
-        Event::ConnectionRequested(id),
+        Some(Event::ConnectionRequested(id)),
         app,
         empty_name(),
         no_metadata(),
@@ -119,7 +119,7 @@ fn publish_good(
         name: key,
     };
     raised(
-        Event::PublishStreamRequested { request: id, mode },
+        Some(Event::PublishStreamRequested { request: id, mode }),
         desk.app,
         key,
         no_metadata(),
@@ -175,7 +175,7 @@ fn play_good(desk: Desk, stream: StreamId, transaction: u64, arguments: PlayArgu
         stream,
     };
     raised(
-        event,
+        Some(event),
         desk.app,
         key,
         no_metadata(),

@@ -51,7 +51,7 @@ pub fn decide(desk: Desk, stream: StreamId, read: Result<Wish, Refusal>) -> Deci
         Ok(Wish::Metadata(metadata)) => change_metadata(desk, metadata),
         Ok(Wish::PingRequest(x)) => replied(Reply::PingResponse(x), empty_name(), no_change()),
         Ok(Wish::PingResponse(x)) => raised(
-            Event::PingResponseReceived { timestamp: x },
+            Some(Event::PingResponseReceived { timestamp: x }),
             empty_name(),
             empty_name(),
             no_metadata(),

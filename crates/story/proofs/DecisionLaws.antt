@@ -57,7 +57,7 @@ use Rattle.story.specs.Orders.{for_room, request_in, unnumbered, want_ask}
 -- ---- the decision of a call
 abbrev pub shown_as : Option Frame → Decision
 shown_as None = nothing
-shown_as (Some f) = raising f.event f.app f.key no_metadata no_change
+shown_as (Some f) = raising (Some f.event) f.app f.key no_metadata no_change
 
 abbrev pub decision_at : Session → Doing → Decision
 decision_at s (Wants x w) = decided s x w
@@ -113,9 +113,9 @@ pub data Did (s : Session) : Doing → Decision → Type 0 where
   made : {y : StreamId} {w : Result Wish Refusal} {t : ℕ} → w ≡ Ok (CreateStream t) → (s.next_stream ≡ 4294967295 → ⊥) → s.stream_count < 16
       → Did s (Wants y w) (replying (StreamCreated t (record { 0 = s.next_stream })) empty_name (making (created (record { 0 = s.next_stream }))))
   files : {y : StreamId} {w : Result Wish Refusal} {event : Event} {app key : Name} {r : Request} → filed_by y (Some event) app key ≡ Some (as_filed r) → Inert w → Next s r
-      → want_ask y w ≡ Some (unnumbered r) → Did s (Wants y w) (raising event app key no_metadata (filing_of r))
+      → want_ask y w ≡ Some (unnumbered r) → Did s (Wants y w) (raising (Some event) app key no_metadata (filing_of r))
   connects : {y : StreamId} {w : Result Wish Refusal} {event : Event} {app key : Name} {r : Request} {t encoding : ℕ} {name : Option Name} → filed_by y (Some event) app key ≡ Some (as_filed r) → Inert w → Next s r
-      → (w ≡ Ok (ConnectWish t encoding name)) × (r.stream.0 ≡ 0) → Did s (Wants y w) (raising event app key no_metadata (filing_connect r encoding))
+      → (w ≡ Ok (ConnectWish t encoding name)) × (r.stream.0 ≡ 0) → Did s (Wants y w) (raising (Some event) app key no_metadata (filing_connect r encoding))
   closed : {y : StreamId} {w : Result Wish Refusal} {x : StreamId} {e : Stream} {d : Decision} → w ≡ Ok (CloseStream x) → connected s ≡ true → stream_of s x.0 ≡ Some e
       → Ended d (setting (created e.id)) → Did s (Wants y w) d
   deleted : {y : StreamId} {w : Result Wish Refusal} {x : StreamId} {e : Stream} {d : Decision} → w ≡ Ok (DeleteStream x) → connected s ≡ true → stream_of s x.0 ≡ Some e

@@ -54,8 +54,8 @@ on_stream d f = on_known (known d) f
 -- "Publishing or Playing raises PublishStreamFinished or PlayStreamFinished."
 abbrev pub ended : StreamState → Name → Name → Change → Decision
 ended Created app key c = quietly c
-ended Publishing app key c = raising PublishStreamFinished app key no_metadata c
-ended Playing app key c = raising PlayStreamFinished app key no_metadata c
+ended Publishing app key c = raising (Some PublishStreamFinished) app key no_metadata c
+ended Playing app key c = raising (Some PlayStreamFinished) app key no_metadata c
 ended Completed app key c = quietly c
 
 -- "closeStream, deleteStream: nothing unless connected and the first argument is a number whose u32 names a stream." "Close then leaves Created; delete removes."
@@ -68,7 +68,7 @@ delete_stream d = on_stream d (λ (e : Stream). ended e.state d.app e.key (remov
 -- "connected, stream Publishing: StreamMetadataChanged"; 6 only where the event would be raised
 abbrev pub described : StreamState → Name → Name → Result StreamMetadata LongEncoder → Decision
 described Created app key read = nothing
-described Publishing app key (Ok m) = raising StreamMetadataChanged app key m no_change
+described Publishing app key (Ok m) = raising (Some StreamMetadataChanged) app key m no_change
 described Publishing app key (Err e) = refusing NameTooLong
 described Playing app key read = nothing
 described Completed app key read = nothing

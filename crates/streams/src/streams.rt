@@ -65,14 +65,20 @@ fn end_stream(state: StreamState, app: Name, key: Name, change: Change) -> Decis
     match state {
         StreamState::Publishing => {
             raised(
-                Event::PublishStreamFinished,
+                Some(Event::PublishStreamFinished),
                 app,
                 key,
                 no_metadata(),
                 change,
             )
         }
-        StreamState::Playing => raised(Event::PlayStreamFinished, app, key, no_metadata(), change),
+        StreamState::Playing => raised(
+            Some(Event::PlayStreamFinished),
+            app,
+            key,
+            no_metadata(),
+            change,
+        ),
         StreamState::Created | StreamState::Completed => quiet(change),
     }
 }
@@ -110,7 +116,7 @@ fn describe(
 {
     match (state, read) {
         (StreamState::Publishing, Ok(m)) => {
-            raised(Event::StreamMetadataChanged, app, key, m, no_change())
+            raised(Some(Event::StreamMetadataChanged), app, key, m, no_change())
         }
         (StreamState::Publishing, Err(_)) => refused(Err(Refusal::NameTooLong)),
         _ => nothing_done(),
