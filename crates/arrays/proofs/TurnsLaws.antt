@@ -142,11 +142,11 @@ module _ (s : Session) (type : ℕ) (x : StreamId) (timestamp clock : ℕ) (body
   type_said (inr (inl e)) = said_at 18 e refl
   type_said (inr (inr e)) = said_at 20 e refl
 
-  pub type_audio : type ≡ 8 → ◌≡◌ {A = Answer × List ℕ} (frame_answer s (frame_of s x (AudioDataReceived timestamp)), out) (by_type s type x timestamp clock body out)
+  pub type_audio : type ≡ 8 → ◌≡◌ {A = Answer × List ℕ} (frame_answer s (frame_of s x (Some (AudioDataReceived timestamp))), out) (by_type s type x timestamp clock body out)
   unfolding by_type
   type_audio e = sym (ap (λ (n : ℕ). by_type s n x timestamp clock body out) e)
 
-  pub type_video : type ≡ 9 → ◌≡◌ {A = Answer × List ℕ} (frame_answer s (frame_of s x (VideoDataReceived timestamp)), out) (by_type s type x timestamp clock body out)
+  pub type_video : type ≡ 9 → ◌≡◌ {A = Answer × List ℕ} (frame_answer s (frame_of s x (Some (VideoDataReceived timestamp))), out) (by_type s type x timestamp clock body out)
   unfolding by_type
   type_video e = sym (ap (λ (n : ℕ). by_type s n x timestamp clock body out) e)
 

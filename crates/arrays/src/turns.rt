@@ -1,6 +1,6 @@
 // The calls that may change a session: the door, the decision, its records, what it changes, and what is told.
 // The arrays are written to, so they go one by one: where a struct of `&mut` comes apart again, the proof did not close.
-ghost use Rattle.std.specs.Prelude.{◌≡◌, ◌<◌, true, [], get_or};
+ghost use Rattle.std.specs.Prelude.{◌≡◌, ◌<◌, Some, true, [], get_or};
 ghost use Rattle.record.specs.Clock.{time_of};
 ghost use Rattle.answers.specs.Sending.{sent};
 ghost use Rattle.session.specs.declared.session.Session.{Session};
@@ -175,15 +175,15 @@ fn tell_frame(
     id: StreamId,
     event: Event,
 ) -> u32
-    ensures { (result, (numbers.new, (described.new, words.new))) ≡ told (frame_answer (session_read image.entry) (frame_of (session_read image.entry) id event)) }
+    ensures { (result, (numbers.new, (described.new, words.new))) ≡ told (frame_answer (session_read image.entry) (frame_of (session_read image.entry) id (Some event))) }
 {
-    match frame_in(image, id, event) {
+    match frame_in(image, id, Some(event)) {
         Some(frame) => tell_plain(
             numbers,
             described,
             words,
             Ok(()),
-            Some(frame.event),
+            frame.event,
             frame.app,
             frame.key,
             0,

@@ -94,8 +94,8 @@ unfolding by_type
 message_leaves s type x timestamp clock body out =
     door s out (by_type s type x timestamp clock body out)
     (either s out (eqb type 4) _ _ (finish_leaves s (decided s x (control_wish body)) [] [] clock out (decided_fate s x (control_wish body)))
-    (either s out (eqb type 8) _ _ (shows (frame_of s x (AudioDataReceived timestamp)))
-    (either s out (eqb type 9) _ _ (shows (frame_of s x (VideoDataReceived timestamp)))
+    (either s out (eqb type 8) _ _ (shows (frame_of s x (Some (AudioDataReceived timestamp))))
+    (either s out (eqb type 9) _ _ (shows (frame_of s x (Some (VideoDataReceived timestamp))))
     (either s out (eqb type 18) _ _ (finish_leaves s (decided s x (data_wish body)) [] [] clock out (decided_fate s x (data_wish body)))
     (either s out (eqb type 20) _ _ (finish_leaves s (decided s x (command_wish body)) [] [] clock out (decided_fate s x (command_wish body)))
     (done refl))))))
@@ -155,11 +155,11 @@ alike s f out false = refl
 module _ (s : Session) (x : StreamId) (timestamp clock : ℕ) (body out : List ℕ) where
   pub audio_alike : handle_message s 8 x timestamp clock body out ≡ (from_media s (handle_media s Audio x timestamp), out)
   unfolding guarded by_type handle_media
-  audio_alike = alike s (frame_of s x (AudioDataReceived timestamp)) out (session_sound s)
+  audio_alike = alike s (frame_of s x (Some (AudioDataReceived timestamp))) out (session_sound s)
 
   pub video_alike : handle_message s 9 x timestamp clock body out ≡ (from_media s (handle_media s Video x timestamp), out)
   unfolding guarded by_type handle_media
-  video_alike = alike s (frame_of s x (VideoDataReceived timestamp)) out (session_sound s)
+  video_alike = alike s (frame_of s x (Some (VideoDataReceived timestamp))) out (session_sound s)
 
 -- ---- a start that is refused hands back the blank session, and the buffer stays
 start_room : (clock : ℕ) (version : Name) (n : ℕ) (after out : List ℕ) (b : Bool) → Leaves blank_session out (opened clock version (room n after out b).0, (room n after out b).1)

@@ -85,8 +85,8 @@ module _ (s : Session) (h : Sound s) (ps : length s.streams ≡ 16) (pr : length
   unfolding by_type
   types type x timestamp clock body out =
       either (eqb type 4) _ _ (wishes x clock out (control_wish body) (control_short body))
-      (either (eqb type 8) _ _ (shows (frame_of s x (AudioDataReceived timestamp)))
-      (either (eqb type 9) _ _ (shows (frame_of s x (VideoDataReceived timestamp)))
+      (either (eqb type 8) _ _ (shows (frame_of s x (Some (AudioDataReceived timestamp))))
+      (either (eqb type 9) _ _ (shows (frame_of s x (Some (VideoDataReceived timestamp))))
       (either (eqb type 18) _ _ (wishes x clock out (data_wish body) (data_short body))
       (either (eqb type 20) _ _ (wishes x clock out (command_wish body) (command_short body)) h))))
 

@@ -10,7 +10,7 @@ use streams::{Frame, show_frame};
 use text::{Name, StreamId};
 
 #[tactic(auto, unfolding(streams::specs::Streams::frame_of, session::specs::State::connected, image::specs::Image::session_at))]
-pub fn frame_in(image: Image, id: StreamId, event: Event) -> Option<Frame>
+pub fn frame_in(image: Image, id: StreamId, event: Option<Event>) -> Option<Frame>
     ensures { result ≡ frame_of (session_read image.entry) id event }
 {
     if !connected_in(image.facts) {

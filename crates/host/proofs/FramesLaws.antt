@@ -4,7 +4,7 @@ use Prim.Native.Nat.{ℕ}
 use mathlib.Core.Bool.{Bool, true, false}
 use mathlib.Core.List.{List}
 use lib.Dec.{eqb}
-use Rattle.std.specs.Prelude.{Option, None, Result, Ok, Err}
+use Rattle.std.specs.Prelude.{Option, Some, None, Result, Ok, Err}
 use Rattle.numbers.specs.Choose.{pick}
 use Rattle.text.specs.declared.ids.StreamId.{StreamId}
 use Rattle.wishes.specs.declared.outcome.Refusal.{Refusal}
@@ -30,7 +30,7 @@ swap false false false x y = refl
 
 media_door : (kind : ℕ) (s : Session) (x : StreamId) (timestamp : ℕ) → media_of kind s x timestamp ≡ pick (session_sound s) (Ok (frame_by kind s x timestamp)) (Err BadSession)
 unfolding media_of handle_media frame_by
-media_door kind s x timestamp = swap (eqb kind 8) (eqb kind 9) (session_sound s) (frame_of s x (AudioDataReceived timestamp)) (frame_of s x (VideoDataReceived timestamp))
+media_door kind s x timestamp = swap (eqb kind 8) (eqb kind 9) (session_sound s) (frame_of s x (Some (AudioDataReceived timestamp))) (frame_of s x (Some (VideoDataReceived timestamp)))
 
 module _ (facts : List ℕ) (streams requests names : List (List ℕ)) (kind : ℕ) (x : StreamId) (timestamp : ℕ) (b : Bool) (e : b ≡ sound_at facts streams requests names) (r : FrameShown) where
   abbrev s : Session

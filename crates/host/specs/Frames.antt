@@ -25,7 +25,7 @@ FrameShown = List ℕ × List (List ℕ)
 
 -- the event's number and timestamp, the names; zeros where there is no event
 abbrev pub frame_shown : Option Frame → FrameShown
-frame_shown (Some f) = media_shown (cell (event_numbers (Some f.event)) 0) (cell (event_numbers (Some f.event)) 9) f.app f.key
+frame_shown (Some f) = media_shown (cell (event_numbers f.event) 0) (cell (event_numbers f.event) 9) f.app f.key
 frame_shown None = media_shown 0 0 empty_name empty_name
 
 abbrev pub media_told : Result (Option Frame) Refusal → ℕ × FrameShown
@@ -37,4 +37,4 @@ hosted_media fine a = pick fine (media_told a) (media_told (Err BadSession))
 
 -- behind the door: the frame by the type byte
 unfoldable pub frame_by : ℕ → Session → StreamId → ℕ → Option Frame
-frame_by kind s x timestamp = pick (eqb kind 8) (frame_of s x (AudioDataReceived timestamp)) (pick (eqb kind 9) (frame_of s x (VideoDataReceived timestamp)) None)
+frame_by kind s x timestamp = pick (eqb kind 8) (frame_of s x (Some (AudioDataReceived timestamp))) (pick (eqb kind 9) (frame_of s x (Some (VideoDataReceived timestamp))) None)

@@ -1,5 +1,5 @@
 // Audio and video messages. The session stays as it is.
-ghost use Rattle.std.specs.Prelude.{◌≡◌, None};
+ghost use Rattle.std.specs.Prelude.{◌≡◌, None, Some};
 ghost use Rattle.streams.specs.Streams.{frame_of};
 ghost use Rattle.image.specs.Image.{readable_at, session_at, session_read};
 ghost use Rattle.host.specs.Frames.{frame_by, frame_shown, hosted_media, media_of};
@@ -26,7 +26,7 @@ fn show_event(
     id: StreamId,
     event: Event,
 )
-    ensures { (media.new, words.new) ≡ frame_shown (frame_of (session_read image.entry) id event) }
+    ensures { (media.new, words.new) ≡ frame_shown (frame_of (session_read image.entry) id (Some event)) }
 {
     if !connected_in(image.facts) {
         show_nothing(media, words);

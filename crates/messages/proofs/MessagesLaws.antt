@@ -4,7 +4,7 @@ use Prim.Native.Nat.{ℕ}
 use mathlib.Core.Bool.{Bool, true, false}
 use mathlib.Core.List.{List}
 use borrow.Author.Tests.{ne_eqb}
-use Rattle.std.specs.Prelude.{Option, Result, Ok, Err}
+use Rattle.std.specs.Prelude.{Option, Some, Result, Ok, Err}
 use Rattle.text.specs.declared.ids.StreamId.{StreamId}
 use Rattle.wishes.specs.Commands.{command_wish}
 use Rattle.wishes.specs.Control.{control_wish}
@@ -58,13 +58,13 @@ module _ (s : Session) (type : ℕ) (x : StreamId) (timestamp clock : ℕ) (body
     shows : (g : Option Frame) → f ≡ g → ◌≡◌ {A = Answer × List ℕ} (a, out) (frame_answer s g, out)
     shows g q = ap (λ (y : Answer). (y, out)) (e ∙ ap (frame_answer s) q)
 
-    pub type_8 : f ≡ frame_of s x (AudioDataReceived timestamp) → type ≡ 8 → ◌≡◌ {A = Answer × List ℕ} (a, out) (by_type s type x timestamp clock body out)
+    pub type_8 : f ≡ frame_of s x (Some (AudioDataReceived timestamp)) → type ≡ 8 → ◌≡◌ {A = Answer × List ℕ} (a, out) (by_type s type x timestamp clock body out)
     unfolding by_type
-    type_8 q = at_type 8 (a, out) (shows (frame_of s x (AudioDataReceived timestamp)) q)
+    type_8 q = at_type 8 (a, out) (shows (frame_of s x (Some (AudioDataReceived timestamp))) q)
 
-    pub type_9 : f ≡ frame_of s x (VideoDataReceived timestamp) → type ≡ 9 → ◌≡◌ {A = Answer × List ℕ} (a, out) (by_type s type x timestamp clock body out)
+    pub type_9 : f ≡ frame_of s x (Some (VideoDataReceived timestamp)) → type ≡ 9 → ◌≡◌ {A = Answer × List ℕ} (a, out) (by_type s type x timestamp clock body out)
     unfolding by_type
-    type_9 q = at_type 9 (a, out) (shows (frame_of s x (VideoDataReceived timestamp)) q)
+    type_9 q = at_type 9 (a, out) (shows (frame_of s x (Some (VideoDataReceived timestamp))) q)
 
   pub type_other : (a : Answer) → a ≡ idle s 0 → (type ≡ 4 → ⊥) → (type ≡ 8 → ⊥) → (type ≡ 9 → ⊥) → (type ≡ 18 → ⊥) → (type ≡ 20 → ⊥) → ◌≡◌ {A = Answer × List ℕ} (a, out) (by_type s type x timestamp clock body out)
   unfolding by_type
@@ -76,6 +76,6 @@ module _ (s : Session) (kind : MediaKind) (x : StreamId) (timestamp : ℕ) (c : 
   unfolding handle_media
   media_shut q = simp (sym e ∙ q)
 
-  pub media_open : (f : Option Frame) (v : Event) → f ≡ frame_of s x v → v ≡ media_event kind timestamp → c ≡ true → Ok f ≡ handle_media s kind x timestamp
+  pub media_open : (f : Option Frame) (v : Event) → f ≡ frame_of s x (Some v) → v ≡ media_event kind timestamp → c ≡ true → Ok f ≡ handle_media s kind x timestamp
   unfolding handle_media
-  media_open f v p r q = ap (λ (g : Option Frame). Ok g) (p ∙ ap (frame_of s x) r) ∙ simp (sym e ∙ q)
+  media_open f v p r q = ap (λ (g : Option Frame). Ok g) (p ∙ ap (λ (e : Event). frame_of s x (Some e)) r) ∙ simp (sym e ∙ q)

@@ -31,14 +31,14 @@ wished s x clock out w = finishing s (decided s x w) [] [] clock out
 
 abbrev pub frame_answer : Session → Option Frame → Answer
 frame_answer s None = idle s 0
-frame_answer s (Some f) = record { outcome = Ok tt; event = Some f.event; app = f.app; key = f.key; metadata = no_metadata; count = 0; session = s }
+frame_answer s (Some f) = record { outcome = Ok tt; event = f.event; app = f.app; key = f.key; metadata = no_metadata; count = 0; session = s }
 
 -- "The type alone picks the treatment: 4 user control, 8 audio, 9 video, 18 data, 20 command; any other type is done and does nothing."
 unfoldable pub by_type : Session → ℕ → StreamId → ℕ → ℕ → List ℕ → List ℕ → Answer × List ℕ
 by_type s type x timestamp clock body out =
     pick (eqb type 4) (wished s x clock out (control_wish body))
-    (pick (eqb type 8) (frame_answer s (frame_of s x (AudioDataReceived timestamp)), out)
-    (pick (eqb type 9) (frame_answer s (frame_of s x (VideoDataReceived timestamp)), out)
+    (pick (eqb type 8) (frame_answer s (frame_of s x (Some (AudioDataReceived timestamp))), out)
+    (pick (eqb type 9) (frame_answer s (frame_of s x (Some (VideoDataReceived timestamp))), out)
     (pick (eqb type 18) (wished s x clock out (data_wish body))
     (pick (eqb type 20) (wished s x clock out (command_wish body))
     (idle s 0, out)))))
@@ -52,4 +52,4 @@ media_event Audio timestamp = AudioDataReceived timestamp
 media_event Video timestamp = VideoDataReceived timestamp
 
 unfoldable pub handle_media : Session → MediaKind → StreamId → ℕ → Result (Option Frame) Refusal
-handle_media s kind x timestamp = pick (session_sound s) (Ok (frame_of s x (media_event kind timestamp))) (Err BadSession)
+handle_media s kind x timestamp = pick (session_sound s) (Ok (frame_of s x (Some (media_event kind timestamp)))) (Err BadSession)

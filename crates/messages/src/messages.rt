@@ -42,7 +42,7 @@ fn frame_answer(session: Session, frame: Option<Frame>) -> Answer
 {
     match frame {
         Some(frame) => Answer {
-            event: Some(frame.event),
+            event: frame.event,
             app: frame.app,
             key: frame.key,
             ..idle_answer(session, 0)
@@ -68,11 +68,19 @@ fn by_type(
         4 => by_wish(session, stream, clock, out, control_wish(body)),
         8 => frame_answer(
             session,
-            frame_of(session, stream, Event::AudioDataReceived { timestamp }),
+            frame_of(
+                session,
+                stream,
+                Some(Event::AudioDataReceived { timestamp }),
+            ),
         ),
         9 => frame_answer(
             session,
-            frame_of(session, stream, Event::VideoDataReceived { timestamp }),
+            frame_of(
+                session,
+                stream,
+                Some(Event::VideoDataReceived { timestamp }),
+            ),
         ),
         18 => by_wish(session, stream, clock, out, data_wish(body)),
         20 => by_wish(session, stream, clock, out, command_wish(body)),
@@ -121,5 +129,6 @@ pub fn handle_media(
     if !session_sound(session) {
         return Err(Refusal::BadSession);
     }
-    Ok(frame_of(session, stream, media_event(kind, timestamp)))
+    let event = media_event(kind, timestamp);
+    Ok(frame_of(session, stream, Some(event)))
 }

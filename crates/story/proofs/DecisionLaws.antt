@@ -57,11 +57,11 @@ use Rattle.story.specs.Orders.{for_room, request_in, unnumbered, want_ask}
 -- ---- the decision of a call
 abbrev pub shown_as : Option Frame → Decision
 shown_as None = nothing
-shown_as (Some f) = raising (Some f.event) f.app f.key no_metadata no_change
+shown_as (Some f) = raising f.event f.app f.key no_metadata no_change
 
 abbrev pub decision_at : Session → Doing → Decision
 decision_at s (Wants x w) = decided s x w
-decision_at s (Shows x e) = shown_as (frame_of s x e)
+decision_at s (Shows x e) = shown_as (frame_of s x (Some e))
 decision_at s Rests = nothing
 decision_at s (Accepts n) = accepted s n
 decision_at s (Rejects n short) = rejected s n short
@@ -264,15 +264,15 @@ module _ (s : Session) where
     no_frame : Frames None
     no_frame = still _ _ refl refl refl tt
 
-    state_shows : (st : StreamState) (app key : Name) → Frames (shown st e app key)
+    state_shows : (st : StreamState) (app key : Name) → Frames (shown st (Some e) app key)
     state_shows Publishing app key = still _ _ refl refl k tt
     state_shows other app key = no_frame
 
-    found_shows : (o : Option Stream) (app : Name) → Frames (option_and_then (shown_found e app) o)
+    found_shows : (o : Option Stream) (app : Name) → Frames (option_and_then (shown_found (Some e) app) o)
     found_shows None app = no_frame
     found_shows (Some d) app = state_shows d.state app d.key
 
-    shows : Frames (frame_of s x e)
+    shows : Frames (frame_of s x (Some e))
     unfolding frame_of
     shows = pick_elim Frames _ _ (connected s) (λ b. found_shows (stream_of s x.0) s.app) (λ b. no_frame)
 

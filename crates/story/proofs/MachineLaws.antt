@@ -60,7 +60,7 @@ abbrev pub desk_for : Name → ℕ → Option Stream → Desk
 desk_for app x o = record { connected = true; app = app; next_stream = x; next_request = 0; stream_count = 0; request_count = 0; seen = o }
 
 abbrev pub frame_seen : Desk → Event → Option Frame
-frame_seen d e = pick d.connected (option_and_then (shown_found e d.app) d.seen) None
+frame_seen d e = pick d.connected (option_and_then (shown_found (Some e) d.app) d.seen) None
 
 abbrev pub desk_decision : Desk → Doing → Decision
 desk_decision d (Wants y w) = decide_read d y w

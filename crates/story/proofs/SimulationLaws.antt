@@ -179,7 +179,7 @@ meets z (Metadata read) y = refl
 meets z other y = tt
 
 module _ (z : Session) (app : Name) (on : connected z ≡ true) (here : z.app ≡ app) where
-  frame_alike : (y : StreamId) (e : Event) → frame_of z y e ≡ frame_seen (own_desk z app (Some y.0)) e
+  frame_alike : (y : StreamId) (e : Event) → frame_of z y (Some e) ≡ frame_seen (own_desk z app (Some y.0)) e
   unfolding frame_of
   frame_alike y e = rw (on, here) refl
 

@@ -132,14 +132,14 @@ module _ (s : Session) where
       [] [] clock out
       (answering
       (pick b4 (wished s x clock out (control_wish body))
-      (pick b8 (frame_answer s (frame_of s x (AudioDataReceived timestamp)), out)
-      (pick b9 (frame_answer s (frame_of s x (VideoDataReceived timestamp)), out)
+      (pick b8 (frame_answer s (frame_of s x (Some (AudioDataReceived timestamp))), out)
+      (pick b9 (frame_answer s (frame_of s x (Some (VideoDataReceived timestamp))), out)
       (pick b18 (wished s x clock out (data_wish body))
       (pick b20 (wished s x clock out (command_wish body)) (idle s 0, out)))))))
   unfolding applied
   types x timestamp clock body out true b8 b9 b18 b20 = finishes (decided s x (control_wish body)) [] [] clock out
-  types x timestamp clock body out false true b9 b18 b20 = frames (frame_of s x (AudioDataReceived timestamp)) clock out
-  types x timestamp clock body out false false true b18 b20 = frames (frame_of s x (VideoDataReceived timestamp)) clock out
+  types x timestamp clock body out false true b9 b18 b20 = frames (frame_of s x (Some (AudioDataReceived timestamp))) clock out
+  types x timestamp clock body out false false true b18 b20 = frames (frame_of s x (Some (VideoDataReceived timestamp))) clock out
   types x timestamp clock body out false false false true b20 = finishes (decided s x (data_wish body)) [] [] clock out
   types x timestamp clock body out false false false false true = finishes (decided s x (command_wish body)) [] [] clock out
   types x timestamp clock body out false false false false false = rw (sent_nothing out)
@@ -147,7 +147,7 @@ module _ (s : Session) where
   pub step_is : session_sound s ≡ true → (c : Call) → step s c ≡ (answer_by (constants_of s) (decision_at s (doing c)) c, next_by s (decision_at s (doing c)) c)
   unfolding step guarded guarded_send sends_ping handle_media by_type message_doing applied
   step_is q (message type x timestamp clock body out) = rw q (types x timestamp clock body out (eqb type 4) (eqb type 8) (eqb type 9) (eqb type 18) (eqb type 20))
-  step_is q (media kind x timestamp) = rw q (alone (frame_of s x (media_event kind timestamp)))
+  step_is q (media kind x timestamp) = rw q (alone (frame_of s x (Some (media_event kind timestamp))))
   step_is q (accept n clock out) = rw q (finishes (decision_at s (Accepts n)) [] [] clock out)
   step_is q (reject n code description clock out) = rw q (finishes (decision_at s (Rejects n (short code description))) code description clock out)
   step_is q (finish x clock out) = rw q (finishes (decision_at s (Finishes x)) [] [] clock out)
@@ -272,7 +272,7 @@ module _ (s : Session) where
   call_took : (c : Call) → Took s (doing c) (answer_by (constants_of s) (decision_at s (doing c)) c) (next_by s (decision_at s (doing c)) c)
   unfolding applied
   call_took (message type x timestamp clock body out) = written_took (message_doing type x timestamp body) _ (does s (message type x timestamp clock body out)) [] [] clock out
-  call_took (media kind x timestamp) = took (shown_as (frame_of s x (media_event kind timestamp))) 0 0 [] (does s (media kind x timestamp))
+  call_took (media kind x timestamp) = took (shown_as (frame_of s x (Some (media_event kind timestamp)))) 0 0 [] (does s (media kind x timestamp))
   call_took (accept n clock out) = written_took (Accepts n) _ (does s (accept n clock out)) [] [] clock out
   call_took (reject n code description clock out) = written_took (Rejects n (short code description)) _ (does s (reject n code description clock out)) code description clock out
   call_took (finish x clock out) = written_took (Finishes x) _ (does s (finish x clock out)) [] [] clock out
@@ -287,7 +287,7 @@ module _ (s : Session) where
 -- ---- audio and video: what is shown is the frame, and the answer is done
 abbrev pub raised : Option Frame → Raised
 raised None = nothing_raised
-raised (Some f) = record { event = Some f.event; app = f.app; key = f.key }
+raised (Some f) = record { event = f.event; app = f.app; key = f.key }
 
 abbrev Brings : Call → Constants → Option Frame → Type 0
 Brings c k f = (frame_in (answer_by k (shown_as f) c) ≡ raised f) × ((answer_by k (shown_as f) c).outcome ≡ Ok tt)
@@ -300,8 +300,8 @@ brings (media kind y timestamp) x e q k (Some f) = (refl, refl)
 brings other x e q k f = absurd cc
 
 pub media_answer_lem : (s : Session) → session_sound s ≡ true → (c : Call) (x : StreamId) (e : Event) → doing c ≡ Shows x e
-    → (frame_in (step s c).0 ≡ raised (frame_of s x e)) × ((step s c).0.outcome ≡ Ok tt)
+    → (frame_in (step s c).0 ≡ raised (frame_of s x (Some e))) × ((step s c).0.outcome ≡ Ok tt)
 media_answer_lem s g c x e q =
-    let b = brings c x e q (constants_of s) (frame_of s x e) in
-    let a : (step s c).0 ≡ answer_by (constants_of s) (shown_as (frame_of s x e)) c = step_answer s g c ∙ ap (λ (d : Doing). answer_by (constants_of s) (decision_at s d) c) q in
+    let b = brings c x e q (constants_of s) (frame_of s x (Some e)) in
+    let a : (step s c).0 ≡ answer_by (constants_of s) (shown_as (frame_of s x (Some e))) c = step_answer s g c ∙ ap (λ (d : Doing). answer_by (constants_of s) (decision_at s d) c) q in
     (ap frame_in a ∙ b.0, ap (λ (r : Response). r.outcome) a ∙ b.1)

@@ -44,9 +44,9 @@ media_shows kind x t = refl
 abbrev frame_by : Option Name → Option (StreamState × Name) → Event → Raised
 frame_by None v e = nothing_raised
 frame_by (Some app) None e = nothing_raised
-frame_by (Some app) (Some v) e = raised (shown v.0 e app v.1)
+frame_by (Some app) (Some v) e = raised (shown v.0 (Some e) app v.1)
 
-by_link : (b : Bool) (app : Name) (o : Option Stream) (e : Event) → raised (pick b (option_and_then (shown_found e app) o) None) ≡ frame_by (pick b (Some app) None) (standing o) e
+by_link : (b : Bool) (app : Name) (o : Option Stream) (e : Event) → raised (pick b (option_and_then (shown_found (Some e) app) o) None) ≡ frame_by (pick b (Some app) None) (standing o) e
 by_link true app None e = refl
 by_link true app (Some d) e = refl
 by_link false app o e = refl
@@ -56,7 +56,7 @@ by_last None l e = refl
 by_last (Some app) (PublishAccepted key) e = refl
 by_last (Some app) other e = refl
 
-shown_is : (s : Session) (x : StreamId) (e : Event) → raised (frame_of s x e) ≡ frame_by (link s) (standing (stream_of s x.0)) e
+shown_is : (s : Session) (x : StreamId) (e : Event) → raised (frame_of s x (Some e)) ≡ frame_by (link s) (standing (stream_of s x.0)) e
 unfolding frame_of
 shown_is s x e = by_link (connected s) s.app (stream_of s x.0) e
 

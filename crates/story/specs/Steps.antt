@@ -59,7 +59,7 @@ abbrev pub plainly : Outcome → ℕ → ℕ → List ℕ → Response
 plainly outcome count timestamp out = record { outcome = outcome; event = None; app = empty_name; key = empty_name; metadata = no_metadata; count = count; timestamp = timestamp; out = out }
 
 abbrev pub shown : Result (Option Frame) Refusal → Response
-shown (Ok (Some f)) = record { outcome = Ok tt; event = Some f.event; app = f.app; key = f.key; metadata = no_metadata; count = 0; timestamp = 0; out = [] }
+shown (Ok (Some f)) = record { outcome = Ok tt; event = f.event; app = f.app; key = f.key; metadata = no_metadata; count = 0; timestamp = 0; out = [] }
 shown (Ok None) = plainly (Ok tt) 0 0 []
 shown (Err r) = plainly (Err r) 0 0 []
 

@@ -54,7 +54,7 @@ module _ (d : Desk) (f : Stream → Decision) (r : Decision) where
     unfolding on_stream
     on_some x e g = e ∙ simp (h, g)
 
-module _ (s : Session) (id : StreamId) (event : Event) (d : Option Frame) (c : Bool) (q : c ≡ connected s) where
+module _ (s : Session) (id : StreamId) (event : Option Event) (d : Option Frame) (c : Bool) (q : c ≡ connected s) where
   pub frame_off : d ≡ None → c ≡ false → d ≡ frame_of s id event
   unfolding frame_of
   frame_off e h = e ∙ simp (sym q ∙ h)
@@ -75,5 +75,5 @@ ended_told x y app key c r e q = e ∙ ap (λ (z : StreamState). ended z app key
 pub described_told : (x y : StreamState) (app key : Name) (read : Result StreamMetadata LongEncoder) (r : Decision) → r ≡ described y app key read → x ≡ y → r ≡ described x app key read
 described_told x y app key read r e q = e ∙ ap (λ (z : StreamState). described z app key read) (sym q)
 
-pub shown_told : (x y : StreamState) (event : Event) (app key : Name) (d : Option Frame) → d ≡ shown y event app key → x ≡ y → d ≡ shown x event app key
+pub shown_told : (x y : StreamState) (event : Option Event) (app key : Name) (d : Option Frame) → d ≡ shown y event app key → x ≡ y → d ≡ shown x event app key
 shown_told x y event app key d e q = e ∙ ap (λ (z : StreamState). shown z event app key) (sym q)

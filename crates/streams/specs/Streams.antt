@@ -77,14 +77,14 @@ abbrev pub change_metadata : Desk → Result StreamMetadata LongEncoder → Deci
 change_metadata d read = on_stream d (λ (e : Stream). described e.state d.app e.key read)
 
 -- ---- "audio, video: connected and Publishing raises the event with app, key and timestamp; its data is the body. Else nothing."
-abbrev pub shown : StreamState → Event → Name → Name → Option Frame
+abbrev pub shown : StreamState → Option Event → Name → Name → Option Frame
 shown Created event app key = None
 shown Publishing event app key = Some (record { event = event; app = app; key = key })
 shown Playing event app key = None
 shown Completed event app key = None
 
-abbrev pub shown_found : Event → Name → Stream → Option Frame
+abbrev pub shown_found : Option Event → Name → Stream → Option Frame
 shown_found event app e = shown e.state event app e.key
 
-unfoldable pub frame_of : Session → StreamId → Event → Option Frame
+unfoldable pub frame_of : Session → StreamId → Option Event → Option Frame
 frame_of s id event = pick (connected s) (option_and_then (shown_found event s.app) (stream_of s id.0)) None

@@ -14,7 +14,7 @@ use wishes::Refusal;
 // An audio or a video event with its names; the session stays as it is.
 #[derive(Clone, Copy)]
 pub struct Frame {
-    pub event: Event,
+    pub event: Option<Event>,
     pub app: Name,
     pub key: Name,
 }
@@ -134,7 +134,7 @@ pub fn change_metadata(desk: Desk, read: Result<StreamMetadata, LongEncoder>) ->
 }
 
 // An event only where the stream is publishing.
-pub fn show_frame(state: StreamState, event: Event, app: Name, key: Name) -> Option<Frame>
+pub fn show_frame(state: StreamState, event: Option<Event>, app: Name, key: Name) -> Option<Frame>
     ensures { result ≡ shown state event app key }
 {
     match state {
@@ -145,7 +145,7 @@ pub fn show_frame(state: StreamState, event: Event, app: Name, key: Name) -> Opt
 
 // The event under the key of a publishing stream. The session goes in by value and does not come back: no copy is made.
 #[tactic(auto, unfolding(crate::specs::Streams::frame_of))]
-pub fn frame_of(session: Session, id: StreamId, event: Event) -> Option<Frame>
+pub fn frame_of(session: Session, id: StreamId, event: Option<Event>) -> Option<Frame>
     ensures { result ≡ frame_of session id event }
 {
     if !is_connected(session) {

@@ -1,5 +1,6 @@
 use native.Mathlib.Omega.{arith}
 use mathlib.Core.Path.{refl, ap, ◌∙◌}
+use Rattle.std.specs.Prelude.{Some}
 use Rattle.session.specs.declared.decision.Event.TheVariants.{AudioDataReceived, VideoDataReceived}
 use Rattle.streams.specs.Streams.{frame_of}
 use Rattle.replies.specs.Answers.{idle}
@@ -21,7 +22,7 @@ returns-in-8 c =
     let a = c.args in
     let s = session_at a.facts.now a.streams.now a.requests.now a.names.now in
     let before : Arrays = (a.facts.now, (a.streams.now, (a.requests.now, a.names.now))) in
-    stays_told a.facts.now a.streams.now a.requests.now a.names.now c.types_say.ensures c.requires 0 a.out.now (frame_answer s (frame_of s a.stream (AudioDataReceived a.timestamp))) _ (frame_stays s _) c.tell_frame.ensures
+    stays_told a.facts.now a.streams.now a.requests.now a.names.now c.types_say.ensures c.requires 0 a.out.now (frame_answer s (frame_of s a.stream (Some (AudioDataReceived a.timestamp)))) _ (frame_stays s _) c.tell_frame.ensures
     ∙ ap (turned 0 before) (type_audio s a.kind a.stream a.timestamp a.clock a.body.now a.out.now c.in-8.is)
 
 pub returns-in-9 : goal.returns-in-9
@@ -29,7 +30,7 @@ returns-in-9 c =
     let a = c.args in
     let s = session_at a.facts.now a.streams.now a.requests.now a.names.now in
     let before : Arrays = (a.facts.now, (a.streams.now, (a.requests.now, a.names.now))) in
-    stays_told a.facts.now a.streams.now a.requests.now a.names.now c.types_say.ensures c.requires 0 a.out.now (frame_answer s (frame_of s a.stream (VideoDataReceived a.timestamp))) _ (frame_stays s _) c.tell_frame-in-9.ensures
+    stays_told a.facts.now a.streams.now a.requests.now a.names.now c.types_say.ensures c.requires 0 a.out.now (frame_answer s (frame_of s a.stream (Some (VideoDataReceived a.timestamp)))) _ (frame_stays s _) c.tell_frame-in-9.ensures
     ∙ ap (turned 0 before) (type_video s a.kind a.stream a.timestamp a.clock a.body.now a.out.now c.in-9.is)
 
 pub returns-in_default : goal.returns-in_default
