@@ -86,6 +86,26 @@ unfolding bytes_of front
 number_done d i v r e z = rw z at e
 
 -- one byte of a list, the last first
+-- a store just behind xs at the front
+set_front : (xs d : List ℕ) (b : ℕ) → length xs < length d → set (front xs d) (length xs) b ≡ front (xs ++ b ∷ []) d
+unfolding front
+set_front [] [] b h = absurd (omega (arith, h))
+set_front [] (y ∷ t) b h = refl
+set_front (x ∷ xs) [] b h = absurd (omega (arith, h))
+set_front (x ∷ xs) (y ∷ t) b h = ap (λ (l : List ℕ). x ∷ l) (set_front xs t b (omega (arith, h)))
+
+pub bytes_next : (d s e : List ℕ) (i : ℕ) → e ≡ front (take i s) d → i < length s → length s ≤ length d → set e i (get_or s i 0) ≡ front (take (i + 1) s) d
+bytes_next d s e i q h g =
+    let long : length (take i s) ≡ i = length-take-le i s (omega arith) in
+    ap (λ (l : List ℕ). set l i (get_or s i 0)) q
+    ∙ ap (λ (n : ℕ). set (front (take i s) d) n (get_or s i 0)) (sym long)
+    ∙ set_front (take i s) d (get_or s i 0) (omega arith)
+    ∙ ap (λ (l : List ℕ). front l d) (sym (take-suc s i 0 h))
+    ∙ ap (λ (n : ℕ). front (take n s) d) (sym (add-one i))
+
+pub bytes_all : (d s e : List ℕ) (i : ℕ) → e ≡ front (take i s) d → i ≡ length s → e ≡ front s d
+bytes_all d s e i q h = q ∙ ap (λ (l : List ℕ). front l d) (take_all i s (omega arith))
+
 pub bytes_start : (d s : List ℕ) → front (take (length s) s) d ≡ front s d
 bytes_start d s = ap (λ (l : List ℕ). front l d) (take_all (length s) s (omega arith))
 

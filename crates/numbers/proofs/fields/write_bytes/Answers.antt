@@ -1,10 +1,7 @@
-use mathlib.Core.Path.{ap}
-use mathlib.Core.List.{List, ◌++◌}
-use Prim.Native.Nat.{ℕ}
-use lib.ListN.{length, drop}
-use Rattle.numbers.specs.Fields.{front}
+use Rattle.std.proofs.Common.{rules}
+use native.Mathlib.Omega.{arith}
+use Rattle.numbers.proofs.FieldsLaws.{bytes_next}
 use Rattle.numbers.proofs.fields.write_bytes.Goals as goal
 
-pub returns : goal.returns
-unfolding front
-returns c = ap (λ (l : List ℕ). l ++ drop (length c.args.src.now) c.args.out.now) c.copy_from_slice.ensures.after
+pub loop-i-preserved : goal.loop-i-preserved
+loop-i-preserved c = let l = c.loop-i in (search rules, bytes_next c.args.out.now c.args.src.now l.out l.i l.invariant.1 (omega arith) (omega arith))
