@@ -74,15 +74,17 @@ module _ (d : Desk) (name : Option Name) where
           go (Err r) = refl
 
 -- ---- by the arguments
+-- the fault by a test of "connected" is the fault by what stands there
+pub fault_told : (d : Desk) (u f : CommandFault) (b : Bool) → d.connected ≡ b → pick b f u ≡ pick d.connected f u
+fault_told d u f b q = ap (λ (x : Bool). pick x f u) (sym q)
+
 -- each fault that counts behind "connected", by whether there is a connection
-pub fault_told : (d : Desk) (b : Bool) → d.connected ≡ b
+pub faults_told : (d : Desk) (b : Bool) → d.connected ≡ b
     → (pick b PublishFew PublishUnconnected ≡ publish_fault d.connected KeyNoString)
     × ((pick b PublishFew PublishUnconnected ≡ publish_fault d.connected ModeNoString)
     × ((pick b PublishUnknownMode PublishUnconnected ≡ publish_fault d.connected ModeUnknown)
     × (pick b PlayFew PlayUnconnected ≡ play_fault d.connected PlayKeyNoString)))
-fault_told d b q =
-    let told : (f u : CommandFault) → pick b f u ≡ pick d.connected f u = λ f u. ap (λ (x : Bool). pick x f u) (sym q) in
-    (told _ _, (told _ _, (told _ _, told _ _)))
+faults_told d b q = (fault_told d _ _ b q, (fault_told d _ _ b q, (fault_told d _ _ b q, fault_told d _ _ b q)))
 
 pub publish_told : (d : Desk) (id : StreamId) (t : ℕ) (x y : Result PublishArguments PublishFault) (a : Decision) → a ≡ publish d id t y → x ≡ y → a ≡ publish d id t x
 publish_told d id t x y a e q = e ∙ ap (publish d id t) (sym q)

@@ -36,8 +36,11 @@ slash_none (x ∷ xs) h = absurd (omega arith)
 abbrev pub publish_as : ℕ → List ℕ → Option PublishMode → Wish
 publish_as t key mode = Publish t (need mode ModeUnknown λ m. Ok (record { mode = m; key = name_read key }))
 
+pub publish_told : (t : ℕ) (key : List ℕ) (k l : Option PublishMode) (r : Wish) → r ≡ publish_as t key l → k ≡ l → r ≡ publish_as t key k
+publish_told t key k l r e f = e ∙ ap (publish_as t key) (sym f)
+
 -- where the key and the mode are strings, that is what the publish wants
 module _ (s : List ℕ) (t : ℕ) (key word : List ℕ) (v : Option Plain) (q : text_in s v ≡ Some key) (l : Option PublishMode) (r : Wish) (e : r ≡ publish_as t key l) (f : mode_of word ≡ l) where
-  pub publish_told : (m : Option Plain) → text_in s m ≡ Some word → r ≡ Publish t (publish_of s v m)
-  publish_told (Some m) g = e ∙ sym (simp (q, g, f))
-  publish_told None g = absurd (true≢false (sym (ap is_some g)))
+  pub publish_wanted : (m : Option Plain) → text_in s m ≡ Some word → r ≡ Publish t (publish_of s v m)
+  publish_wanted (Some m) g = publish_told t key (mode_of word) l r e f ∙ sym (simp (q, g))
+  publish_wanted None g = absurd (true≢false (sym (ap is_some g)))

@@ -9,9 +9,14 @@ use Rattle.metadata.specs.Reading.{metadata_at}
 use Rattle.metadata.specs.declared.metadata.StreamMetadata.{StreamMetadata}
 use Rattle.metadata.specs.declared.reading.LongEncoder.{LongEncoder}
 use Rattle.wishes.specs.DataFrame.{sets_metadata, whole_data}
+use Rattle.wishes.specs.declared.wish.Wish.{Wish}
 use Rattle.wishes.specs.declared.wish.Wish.TheVariants.{Metadata}
 
+-- what is read from the place of a third value is what is read of it
+pub metadata_read : (s : List ℕ) (p : ℕ) (r : Result StreamMetadata LongEncoder) → r ≡ metadata_at s p → p ≡ place_of s 2 → ◌≡◌ {A = Wish} (Metadata r) (Metadata (metadata_at s (place_of s 2)))
+metadata_read s p r e f = ap (λ (q : Result StreamMetadata LongEncoder). Metadata q) (e ∙ ap (metadata_at s) f)
+
 -- where a message sets metadata, it wants those that are read from its third value
-pub metadata_read : (s : List ℕ) (p : ℕ) (r : Result StreamMetadata LongEncoder) → sets_metadata s ≡ true → r ≡ metadata_at s p → p ≡ place_of s 2 → Metadata r ≡ whole_data s
+pub metadata_wanted : (s : List ℕ) (p : ℕ) (r : Result StreamMetadata LongEncoder) → sets_metadata s ≡ true → r ≡ metadata_at s p → p ≡ place_of s 2 → Metadata r ≡ whole_data s
 unfolding whole_data
-metadata_read s p r h e f = ap (λ (q : Result StreamMetadata LongEncoder). Metadata q) (e ∙ ap (metadata_at s) f) ∙ simp h
+metadata_wanted s p r h e f = metadata_read s p r e f ∙ simp h
